@@ -1,0 +1,104 @@
+-- Document 01, "What the reader does" and "What an acceptance writes": the complete answers of read, bill and body.
+-- Assumes nothing.
+use Prim.Native.Nat.{ℕ, zero, suc, _+_, _*_}
+use mathlib.Core.Bool.{Bool, cond, not}
+use mathlib.Core.List.{List, [], _∷_, _++_, map, flatMap}
+use lib.ListN.{length, take, drop}
+use Rattle.pdi_spec.specs.Lists.{sumOf}
+use Rattle.pdi_spec.specs.Table.{File, kind, images, partitions, partitionNumbers}
+use Rattle.pdi_spec.specs.Partition.{total, executionAddress, loadAddress, key, attributes}
+use Rattle.pdi_spec.specs.HashBlock.{hashEntry}
+use Rattle.pdi_spec.specs.Ranges.{Range, span, bodyRange, loadRange}
+use Rattle.pdi_spec.specs.Verdict.{Rule, Outcome, accepted, refused, verdict}
+use Rattle.pdi_spec.specs.Rules.{notFrom}
+use Rattle.pdi_spec.specs.RuleList.{rules, readRules}
+
+-- "answers 64 × number + p, with number 0 for accepted"
+unfoldable pub answer : Outcome → ℕ
+answer accepted = 0
+answer (refused number p) = 64 * number + p
+
+-- one thing where accepted, another where refused
+unfoldable pub ifAccepted : {A : Type 0} → Outcome → A → A → A
+ifAccepted accepted yea nay = yea
+ifAccepted (refused number p) yea nay = nay
+
+-- "for each partition, in chain order, eight: span start in bytes, span length in bytes, loaded bytes, load address,
+-- execution address, key word, byte offset of its hash entry (0 if none), attribute word"
+pub record Row : Type 0 where
+  pub spanStart : ℕ
+  pub spanLength : ℕ
+  pub loadedBytes : ℕ
+  pub load : ℕ
+  pub execution : ℕ
+  pub keyWord : ℕ
+  pub hashEntryOffset : ℕ
+  pub attributeWord : ℕ
+
+unfoldable pub rowNumbers : Row → List ℕ
+rowNumbers r =
+    r .spanStart ∷ r .spanLength ∷ r .loadedBytes ∷ r .load ∷ r .execution ∷ r .keyWord ∷ r .hashEntryOffset ∷ r .attributeWord ∷ []
+
+unfoldable pub rowOf : File → ℕ → Row
+rowOf f p =
+    record {
+      spanStart = span f p .start;
+      spanLength = span f p .size;
+      loadedBytes = loadRange f p .addresses .size;
+      load = loadAddress f p;
+      execution = executionAddress f p;
+      keyWord = key f p;
+      hashEntryOffset = hashEntry f p;
+      attributeWord = attributes f p;
+    }
+
+-- "Billed: 4 × the sum of all T."
+unfoldable pub billed : File → ℕ
+billed f = 4 * sumOf (map (total f) (partitionNumbers f))
+
+-- "Head, four numbers: kind (1 full, 2 partial), images, partitions N, billed bytes."
+unfoldable pub head : File → List ℕ
+head f = kind f ∷ images f ∷ partitions f ∷ billed f ∷ []
+
+-- the head and N rows
+unfoldable pub headAndRows : File → List ℕ
+headAndRows f = head f ++ flatMap (λ (p : ℕ). rowNumbers (rowOf f p)) (partitionNumbers f)
+
+-- what a question with this list of rules writes: nothing where it refuses
+unfoldable pub written : List Rule → File → List ℕ
+written rs f = ifAccepted (verdict rs f) (headAndRows f) []
+
+-- "Only the first 4 + 8N numbers change." "A refused read leaves every number of the row buffer as found."
+unfoldable pub rowsAfter : List Rule → File → List ℕ → List ℕ
+rowsAfter rs f rows = written rs f ++ drop (length (written rs f)) rows
+
+-- "Bill gives the billed bytes, 0 if refused."
+unfoldable pub billBy : List Rule → File → ℕ
+billBy rs f = ifAccepted (verdict rs f) (billed f) 0
+
+-- a part of the image
+unfoldable pub cut : Range → List ℕ → List ℕ
+cut r bytes = take (r .size) (drop (r .start) bytes)
+
+-- "hands back the stored bytes of that partition as a part of the lent image. It is empty if the image is refused or p isn't
+-- 1 to N"
+unfoldable pub bodyBy : List Rule → File → ℕ → List ℕ
+bodyBy rs f p =
+    ifAccepted (verdict rs f) (cond (notFrom 1 (partitions f) p) [] (cut (bodyRange f p) (f .bytes))) []
+
+-- ---- the three questions, for any image, place, row buffer and p
+
+abbrev pub asked : List ℕ → ℕ → File
+asked image place = record { bytes = image; place = place }
+
+unfoldable pub readAnswer : List ℕ → ℕ → List ℕ → ℕ
+readAnswer image place rows = answer (verdict (readRules (length rows)) (asked image place))
+
+unfoldable pub readRows : List ℕ → ℕ → List ℕ → List ℕ
+readRows image place rows = rowsAfter (readRules (length rows)) (asked image place) rows
+
+unfoldable pub billAnswer : List ℕ → ℕ → ℕ
+billAnswer image place = billBy rules (asked image place)
+
+unfoldable pub bodyAnswer : List ℕ → ℕ → ℕ → List ℕ
+bodyAnswer image place p = bodyBy rules (asked image place) p

@@ -1,0 +1,1 @@
+// The crate has definitions and claims only, in specs/: no code.
