@@ -1,2 +1,9 @@
 pub mod Bench
+pub mod Bill
+pub mod HashBlock
+pub mod Kept
+pub mod Lists
+pub mod Loading
+pub mod Rows
 pub mod Tests
+pub mod Verdict

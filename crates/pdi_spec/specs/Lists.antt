@@ -15,6 +15,11 @@ unfoldable pub sumOf : List ℕ → ℕ
 sumOf [] = 0
 sumOf (x ∷ xs) = x + sumOf xs
 
+-- one of the tests is true
+unfoldable pub anyTrue : List Bool → Bool
+anyTrue [] = false
+anyTrue (b ∷ tests) = b || anyTrue tests
+
 module _ {A : Type 0} where
   -- some entry passes the test
   unfoldable pub anyOf : (A → Bool) → List A → Bool

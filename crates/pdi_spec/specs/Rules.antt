@@ -5,7 +5,7 @@ use mathlib.Core.Bool.{Bool, cond, not, _&&_, _||_}
 use mathlib.Core.List.{List, [], _∷_, _++_}
 use lib.ListN.{length}
 use lib.Dec.{ltb, eqb}
-use Rattle.pdi_spec.specs.Lists.{numbers, anyOf, anyPair, isIn}
+use Rattle.pdi_spec.specs.Lists.{numbers, anyTrue, anyOf, anyPair, isIn}
 use Rattle.pdi_spec.specs.Words.{checksum, spells}
 use Rattle.pdi_spec.specs.Keys.{zeroOrCommon, zeroCommonOrUser}
 use Rattle.pdi_spec.specs.Table.{File, version, images, partitions, kindSpells, tableWords, imageHeaderWords, partitionHeaderWords, tableKey, optionalWords, tableReserved, tableChecksum, FPDI, PPDI, isFull}
@@ -47,13 +47,15 @@ kindUnknown f = not (eqb (version f) 0x00010000) || not (kindSpells f FPDI || ki
 -- of 4; word 0x78 not 0"
 unfoldable pub tableFieldsWrong : File → Bool
 tableFieldsWrong f =
-    notFrom 1 32 (images f)
-    || notFrom 1 32 (partitions f)
-    || not (eqb (tableWords f) 32)
-    || eqb (imageHeaderWords f) 0
-    || not (eqb (partitionHeaderWords f) 32)
-    || not (eqb (optionalWords f % 4) 0)
-    || not (eqb (tableReserved f) 0)
+    anyTrue
+    (notFrom 1 32 (images f)
+    ∷ notFrom 1 32 (partitions f)
+    ∷ not (eqb (tableWords f) 32)
+    ∷ eqb (imageHeaderWords f) 0
+    ∷ not (eqb (partitionHeaderWords f) 32)
+    ∷ not (eqb (optionalWords f % 4) 0)
+    ∷ not (eqb (tableReserved f) 0)
+    ∷ [])
 
 -- 7: "table key not 0 or a common key"
 unfoldable pub tableKeyUnknown : File → Bool
@@ -65,17 +67,19 @@ tableKeyUnknown f = not (zeroOrCommon (tableKey f))
 -- source offset 0x1C is at least 4,416, and offset + PLM total isn't past the image."
 unfoldable pub bootHeaderBad : File → Bool
 bootHeaderBad f =
-    ltb (f .place) bootSize
-    || not (eqb (widthDetection f) 0xAA995566)
-    || not (spells (f .bytes) 0x14 XNLX)
-    || not (eqb (bootChecksumWord f) (bootChecksumDue f))
-    || not (zeroOrCommon (bootKey f))
-    || not (eqb (tableKey f) 0 || eqb (tableKey f) (bootKey f))
-    || ltb (plmLength f) 1
-    || ltb (plmTotal f) (plmLength f)
-    || ltb (cdoTotal f) (cdoLength f)
-    || ltb (sourceOffset f) bootSize
-    || pastImage f (record { start = sourceOffset f; size = plmTotal f })
+    anyTrue
+    (ltb (f .place) bootSize
+    ∷ not (eqb (widthDetection f) 0xAA995566)
+    ∷ not (spells (f .bytes) 0x14 XNLX)
+    ∷ not (eqb (bootChecksumWord f) (bootChecksumDue f))
+    ∷ not (zeroOrCommon (bootKey f))
+    ∷ not (eqb (tableKey f) 0 || eqb (tableKey f) (bootKey f))
+    ∷ ltb (plmLength f) 1
+    ∷ ltb (plmTotal f) (plmLength f)
+    ∷ ltb (cdoTotal f) (cdoLength f)
+    ∷ ltb (sourceOffset f) bootSize
+    ∷ pastImage f (record { start = sourceOffset f; size = plmTotal f })
+    ∷ [])
 
 -- 8: "full image, boot header bad"
 unfoldable pub bootHeaderWrong : File → Bool
@@ -88,9 +92,11 @@ imageHeadersOutside f = pastImage f (tableWithOptional f) || pastImage f (imageH
 -- 10: "header p past the image; next 0 at p < N; next not 0 at p = N"
 unfoldable pub chainBroken : File → ℕ → Bool
 chainBroken f p =
-    pastImage f (headerRange f p)
-    || (ltb p (partitions f) && eqb (next f p) 0)
-    || (eqb p (partitions f) && not (eqb (next f p) 0))
+    anyTrue
+    (pastImage f (headerRange f p)
+    ∷ (ltb p (partitions f) && eqb (next f p) 0)
+    ∷ (eqb p (partitions f) && not (eqb (next f p) 0))
+    ∷ [])
 
 -- 11: "header checksum isn't the sum of its first 31 words"
 unfoldable pub headerChecksumWrong : File → ℕ → Bool
@@ -100,15 +106,17 @@ headerChecksumWrong f p = not (eqb (headerChecksum f p) (checksum (f .bytes) (he
 -- 0 or 1; 13:12 are 0 or 3; 11:8 are 0 to 6, 8 or 9; 5:4 are 0 or 3. Bits 15:14 and 7:6 [..] aren't examined."
 unfoldable pub attributesBad : ℕ → Bool
 attributesBad word =
-    ltb 4 (clusterOf word)
-    || not (isIn (dpaOf word) (0 ∷ 3 ∷ []))
-    || eqb (typeOf word) 0
-    || not (eqb (reservedOf word) 0)
-    || not (isIn (tcmFlagOf word) (0 ∷ 3 ∷ []))
-    || not (isIn (ownerOf word) (0 ∷ 1 ∷ []))
-    || not (isIn (checksumTypeOf word) (0 ∷ 3 ∷ []))
-    || not (isIn (cpuOf word) (0 ∷ 1 ∷ 2 ∷ 3 ∷ 4 ∷ 5 ∷ 6 ∷ 8 ∷ 9 ∷ []))
-    || not (isIn (lockstepOf word) (0 ∷ 3 ∷ []))
+    anyTrue
+    (ltb 4 (clusterOf word)
+    ∷ not (isIn (dpaOf word) (0 ∷ 3 ∷ []))
+    ∷ eqb (typeOf word) 0
+    ∷ not (eqb (reservedOf word) 0)
+    ∷ not (isIn (tcmFlagOf word) (0 ∷ 3 ∷ []))
+    ∷ not (isIn (ownerOf word) (0 ∷ 1 ∷ []))
+    ∷ not (isIn (checksumTypeOf word) (0 ∷ 3 ∷ []))
+    ∷ not (isIn (cpuOf word) (0 ∷ 1 ∷ 2 ∷ 3 ∷ 4 ∷ 5 ∷ 6 ∷ 8 ∷ 9 ∷ []))
+    ∷ not (isIn (lockstepOf word) (0 ∷ 3 ∷ []))
+    ∷ [])
 
 -- 12: "word 0x78 not 0, or attributes bad"
 unfoldable pub attributesWrong : File → ℕ → Bool
@@ -121,11 +129,13 @@ keyUnknown f p = not (zeroCommonOrUser (key f p))
 -- 14: "not 1 ≤ U ≤ E ≤ T; an actual size over its total"
 unfoldable pub lengthsWrong : File → ℕ → Bool
 lengthsWrong f p =
-    ltb (unencrypted f p) 1
-    || ltb (encrypted f p) (unencrypted f p)
-    || ltb (total f p) (encrypted f p)
-    || ltb (keyTotal f p) (keyActual f p)
-    || ltb (signatureTotal f p) (signatureActual f p)
+    anyTrue
+    (ltb (unencrypted f p) 1
+    ∷ ltb (encrypted f p) (unencrypted f p)
+    ∷ ltb (total f p) (encrypted f p)
+    ∷ ltb (keyTotal f p) (keyActual f p)
+    ∷ ltb (signatureTotal f p) (signatureActual f p)
+    ∷ [])
 
 -- 15: "span past the image; checksum type 3 and its 48 bytes past the image"
 unfoldable pub spanOutside : File → ℕ → Bool
@@ -145,12 +155,14 @@ loadAddressWrong f p =
 -- image, and exactly one entry has the own index. Padding isn't examined."
 unfoldable pub hashBlockBad : File → ℕ → Bool
 hashBlockBad f i =
-    eqb (blockLength f i) 0
-    || eqb (blockOffset f i) 0
-    || notFrom 1 33 (entriesIn (blockLength f i))
-    || not (eqb (blockLength f i) (sizeOfEntries (entriesIn (blockLength f i))))
-    || pastImage f (blockRange f i)
-    || not (eqb (ownEntries f i) 1)
+    anyTrue
+    (eqb (blockLength f i) 0
+    ∷ eqb (blockOffset f i) 0
+    ∷ notFrom 1 33 (entriesIn (blockLength f i))
+    ∷ not (eqb (blockLength f i) (sizeOfEntries (entriesIn (blockLength f i))))
+    ∷ pastImage f (blockRange f i)
+    ∷ not (eqb (ownEntries f i) 1)
+    ∷ [])
 
 -- 17: "length and offset both 0: no block"
 unfoldable pub hashBlockWrong : File → ℕ → Bool
@@ -160,9 +172,11 @@ hashBlockWrong f i = not (noBlock f i) && hashBlockBad f i
 -- span. Each hash block is disjoint from all of them but spans, and from each body. Two hash blocks are equal or disjoint."
 unfoldable pub storedRangesClash : File → Bool
 storedRangesClash f =
-    anyPair overlap (headerRanges f ++ spans f)
-    || anyOf (λ (h : Range). anyOf (overlap h) (headerRanges f ++ bodies f)) (hashBlocks f)
-    || anyPair (λ (g h : Range). overlap g h && not (sameRange g h)) (hashBlocks f)
+    anyTrue
+    (anyPair overlap (headerRanges f ++ spans f)
+    ∷ anyOf (λ (h : Range). anyOf (overlap h) (headerRanges f ++ bodies f)) (hashBlocks f)
+    ∷ anyPair (λ (g h : Range). overlap g h && not (sameRange g h)) (hashBlocks f)
+    ∷ [])
 
 -- 19: "load ranges clash; p is the smallest whose load range meets an earlier partition's"
 unfoldable pub loadRangesClash : File → ℕ → Bool

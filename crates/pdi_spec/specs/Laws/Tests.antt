@@ -9,8 +9,9 @@ use mathlib.Core.Logic.{_↔_, _⊎_, inl, inr, ⊎-elim, ∥∥₁-elim, ∥∥
 use native.Mathlib.Bridge.{le-prop}
 use mathlib.Core.Path.{_≡_, refl, sym, _∙_, ap, subst}
 use lib.Dec.{leb, ltb, eqb}
+use lib.ListN.{getD}
 use borrow.Author.Tests.{ltb-true, ltb-false, leb-true, leb-false, eqb-true, eqb-false, lt-ltb, le-ltb, le-leb, lt-leb, eq-eqb, ne-eqb}
-use Rattle.pdi_spec.specs.Lists.{numbers, anyOf, anyPair, those, countOf, firstOf}
+use Rattle.pdi_spec.specs.Lists.{numbers, anyTrue, anyOf, anyPair, those, countOf, firstOf}
 use Rattle.pdi_spec.specs.Ranges.{Range, endOf, within, overlap}
 
 -- ---- Boolean tests
@@ -71,6 +72,13 @@ never-both p q = true≢false (sym p ∙ q)
 pub either : (a : Bool) → (a ≡ true) ⊎ (a ≡ false)
 either true = inl refl
 either false = inr refl
+
+-- where none of the tests is true, the one at any index is false
+pub false-at : (tests : List Bool) → anyTrue tests ≡ false → (i : ℕ) → getD tests i false ≡ false
+unfolding anyTrue
+false-at [] e i = refl
+false-at (b ∷ tests) e zero = or-left b (anyTrue tests) e
+false-at (b ∷ tests) e (suc i) = false-at tests (or-right b (anyTrue tests) e) i
 
 -- ---- numbers from .. on
 

@@ -1,0 +1,167 @@
+-- What a kept rule tells of the file, by the kinds of rules; and that the ranges of rule 18 lie inside the image where rules 3 to 17
+-- are kept. Assumes nothing.
+use Prim.Native.Nat.{ℕ, zero, suc, _+_, _*_, _%_, _≤_, _<_}
+use native.Mathlib.Omega.{arith}
+use native.Mathlib.Bridge.{le-prop}
+use mathlib.Core.Bool.{Bool, true, false, cond, not, _&&_, _||_}
+use mathlib.Core.List.{List, [], _∷_, _++_, map, flatMap, List·Mem, List·Memᴰ·head, List·Memᴰ·cases-cons, mem-cons-self, mem-cons-of-mem, not-mem-nil, List·Memᴰ·eq-of-singleton, mem-append, mem-append-left, mem-append-right, exists-of-mem-map}
+use mathlib.Core.Logic.{_⊎_, inl, inr, ⊎-elim, ∥∥₁-elim, Or·elim}
+use mathlib.Core.Path.{_≡_, refl, sym, _∙_, ap, subst}
+use lib.Dec.{ltb, eqb, lit<}
+use lib.ListN.{length, getD}
+use borrow.Author.Tests.{ltb-false}
+use Rattle.pdi_spec.specs.Lists.{numbers}
+use Rattle.pdi_spec.specs.Table.{File, partitions, partitionNumbers, isFull, headerSize}
+use Rattle.pdi_spec.specs.Boot.{bootSize}
+use Rattle.pdi_spec.specs.HashBlock.{noBlock}
+use Rattle.pdi_spec.specs.Ranges.{Range, endOf, past, bootRange, tableRange, tableWithOptional, imageHeaders, headerRange, span, blockRange, spans, headerRanges, hashBlocks}
+use Rattle.pdi_spec.specs.Verdict.{Rule, once, each, eachAndTable, Kept, Keeps}
+use Rattle.pdi_spec.specs.Rules.{pastImage, tableOutside, bootHeaderWrong, bootHeaderBad, imageHeadersOutside, chainBroken, spanOutside, hashBlockWrong, hashBlockBad}
+use Rattle.pdi_spec.specs.RuleList.{headerRules}
+use Rattle.pdi_spec.specs.Laws.Tests.{or-left, or-right, false-at, numbers-mem}
+
+-- ---- by the kinds of rules
+
+pub kept-once : (k : ℕ) (c : File → Bool) (f : File) → Kept (once k c) f → c f ≡ false
+unfolding Kept once
+kept-once k c f h = h 0 mem-cons-self
+
+pub kept-each : (k : ℕ) (c : File → ℕ → Bool) (f : File) → Kept (each k c) f → (p : ℕ) → List·Mem p (partitionNumbers f) → c f p ≡ false
+unfolding Kept each
+kept-each k c f h p m = h p m
+
+pub kept-with-table : (k : ℕ) (c : File → ℕ → Bool) (f : File) → Kept (eachAndTable k c) f
+    → (p : ℕ) → List·Mem p (numbers 0 (suc (partitions f))) → c f p ≡ false
+unfolding Kept eachAndTable
+kept-with-table k c f h p m = h p m
+
+-- p from 1 to N is tried
+pub partition-mem : (f : File) (p : ℕ) → 1 ≤ p → p ≤ partitions f → List·Mem p (partitionNumbers f)
+unfolding partitionNumbers
+partition-mem f p l h = numbers-mem 1 (partitions f) l (omega arith)
+
+-- the entry at an index stands in the list
+pub mem-at : {A : Type 0} (xs : List A) (i : ℕ) (d : A) → i < length xs → List·Mem (getD xs i d) xs
+mem-at [] i d h = absurd (omega arith)
+mem-at (x ∷ xs) zero d h = mem-cons-self
+mem-at (x ∷ xs) (suc i) d h = mem-cons-of-mem x (mem-at xs i d (omega arith))
+
+module _ (f : File) (keeps : Keeps headerRules f) where
+  -- the rule at an index of rules 3 to 17 is kept
+  kept-at : (i : ℕ) (d : Rule) → i < length headerRules → Kept (getD headerRules i d) f
+  unfolding Keeps
+  kept-at i d h = keeps (getD headerRules i d) (mem-at headerRules i d h)
+
+  pub rule-3 : tableOutside f ≡ false
+  unfolding headerRules
+  rule-3 = kept-once 3 tableOutside f (kept-at 0 (once 0 tableOutside) (lit< tt))
+
+  pub rule-8 : bootHeaderWrong f ≡ false
+  unfolding headerRules
+  rule-8 = kept-once 8 bootHeaderWrong f (kept-at 5 (once 0 tableOutside) (lit< tt))
+
+  pub rule-9 : imageHeadersOutside f ≡ false
+  unfolding headerRules
+  rule-9 = kept-once 9 imageHeadersOutside f (kept-at 6 (once 0 tableOutside) (lit< tt))
+
+  pub rule-10 : (p : ℕ) → List·Mem p (partitionNumbers f) → chainBroken f p ≡ false
+  unfolding headerRules
+  rule-10 = kept-each 10 chainBroken f (kept-at 7 (once 0 tableOutside) (lit< tt))
+
+  pub rule-15 : (p : ℕ) → List·Mem p (partitionNumbers f) → spanOutside f p ≡ false
+  unfolding headerRules
+  rule-15 = kept-each 15 spanOutside f (kept-at 12 (once 0 tableOutside) (lit< tt))
+
+  pub rule-17 : (p : ℕ) → List·Mem p (numbers 0 (suc (partitions f))) → hashBlockWrong f p ≡ false
+  unfolding headerRules
+  rule-17 = kept-with-table 17 hashBlockWrong f (kept-at 14 (once 0 tableOutside) (lit< tt))
+
+-- ---- inside the image
+
+-- the range's end is at most the image's length
+pub Inside : File → Range → Type 0
+Inside f r = endOf r ≤ length (f .bytes)
+
+pub not-past : (f : File) (r : Range) → pastImage f r ≡ false → Inside f r
+unfolding pastImage past Inside
+not-past f r e = ltb-false (length (f .bytes)) (endOf r) e
+
+pub span-inside : (f : File) (p : ℕ) → spanOutside f p ≡ false → Inside f (span f p)
+unfolding spanOutside
+span-inside f p e = not-past f (span f p) (or-left (pastImage f (span f p)) _ e)
+
+-- what holds of f x for each x of a list holds of each entry of the mapped list
+inside-map : (f : File) (g : ℕ → Range) (xs : List ℕ) → ((x : ℕ) → List·Mem x xs → Inside f (g x))
+    → (r : Range) → List·Mem r (map g xs) → Inside f r
+unfolding Inside
+inside-map f g xs h r m =
+    ∥∥₁-elim (exists-of-mem-map m) le-prop (λ t. subst (λ (q : Range). endOf q ≤ length (f .bytes)) (t .2) (h (t .0) (t .1)))
+
+inside-either : (f : File) (xs ys : List Range) → ((r : Range) → List·Mem r xs → Inside f r) → ((r : Range) → List·Mem r ys → Inside f r)
+    → (r : Range) → List·Mem r (xs ++ ys) → Inside f r
+unfolding Inside
+inside-either f xs ys h k r m = Or·elim le-prop (mem-append .0 m) (h r) (k r)
+
+inside-cons : (f : File) (x : Range) (xs : List Range) → Inside f x → ((r : Range) → List·Mem r xs → Inside f r)
+    → (r : Range) → List·Mem r (x ∷ xs) → Inside f r
+unfolding Inside
+inside-cons f x xs h k r m =
+    ∥∥₁-elim m le-prop
+    (λ d. ⊎-elim (λ q. subst (λ (u : Range). endOf u ≤ length (f .bytes)) (sym q) h) (λ d′. k r ∣ d′ ∣₁) (List·Memᴰ·cases-cons d))
+
+inside-none : (f : File) (r : Range) → List·Mem r [] → Inside f r
+inside-none f r m = absurd (not-mem-nil m)
+
+module _ (f : File) (keeps : Keeps headerRules f) where
+  -- a full image is longer than its boot header, as the table lies behind it
+  boot-inside : isFull f ≡ true → Inside f bootRange
+  unfolding Inside endOf bootRange bootHeaderWrong bootHeaderBad tableOutside tableRange headerSize
+  boot-inside full =
+      let bad : bootHeaderBad f ≡ false = ap (λ (b : Bool). b && bootHeaderBad f) (sym full) ∙ rule-8 f keeps in
+      let place = ltb-false (f .place) bootSize (false-at _ bad 0) in
+      let table = not-past f (tableRange f) (or-right (not (eqb (f .place % 4) 0)) (pastImage f (tableRange f)) (rule-3 f keeps)) in
+      omega (arith, place, table)
+
+  boots-inside : (r : Range) → List·Mem r (cond (isFull f) (bootRange ∷ []) []) → Inside f r
+  boots-inside = go (isFull f) refl
+    where
+      go : (b : Bool) → isFull f ≡ b → (r : Range) → List·Mem r (cond b (bootRange ∷ []) []) → Inside f r
+      go true e = inside-cons f bootRange [] (boot-inside e) (inside-none f)
+      go false e = inside-none f
+
+  header-inside : (p : ℕ) → List·Mem p (partitionNumbers f) → Inside f (headerRange f p)
+  unfolding chainBroken
+  header-inside p m = not-past f (headerRange f p) (false-at _ (rule-10 f keeps p m) 0)
+
+  -- every range that rule 18 wants disjoint from the others
+  pub stored-inside : (r : Range) → List·Mem r (headerRanges f ++ spans f) → Inside f r
+  unfolding headerRanges spans imageHeadersOutside
+  stored-inside =
+      inside-either f _ (map (span f) (partitionNumbers f))
+      (inside-either f (cond (isFull f) (bootRange ∷ []) []) _ boots-inside
+      (inside-cons f (tableWithOptional f) _ (not-past f (tableWithOptional f) (or-left (pastImage f (tableWithOptional f)) (pastImage f (imageHeaders f)) (rule-9 f keeps)))
+      (inside-cons f (imageHeaders f) _ (not-past f (imageHeaders f) (or-right (pastImage f (tableWithOptional f)) (pastImage f (imageHeaders f)) (rule-9 f keeps)))
+      (inside-map f (headerRange f) (partitionNumbers f) header-inside))))
+      (inside-map f (span f) (partitionNumbers f) (λ p m. span-inside f p (rule-15 f keeps p m)))
+
+  -- and every hash block
+  pub block-inside : (i : ℕ) → List·Mem i (numbers 0 (suc (partitions f))) → noBlock f i ≡ false → Inside f (blockRange f i)
+  unfolding hashBlockWrong hashBlockBad
+  block-inside i m e =
+      let bad : hashBlockBad f i ≡ false = ap (λ (b : Bool). not b && hashBlockBad f i) (sym e) ∙ rule-17 f keeps i m in
+      not-past f (blockRange f i) (false-at _ bad 4)
+
+  pub blocks-inside : (r : Range) → List·Mem r (hashBlocks f) → Inside f r
+  unfolding hashBlocks flatMap Inside
+  blocks-inside r m = go (numbers 0 (suc (partitions f))) (λ i k. k) m
+    where
+      one : (i : ℕ) → List·Mem i (numbers 0 (suc (partitions f))) → (b : Bool) → noBlock f i ≡ b
+          → (q : Range) → List·Mem q (cond b [] (blockRange f i ∷ [])) → Inside f q
+      one i k true e = inside-none f
+      one i k false e = inside-cons f (blockRange f i) [] (block-inside i k e) (inside-none f)
+
+      go : (is : List ℕ) → ((i : ℕ) → List·Mem i is → List·Mem i (numbers 0 (suc (partitions f))))
+          → List·Mem r (flatMap (λ (i : ℕ). cond (noBlock f i) [] (blockRange f i ∷ [])) is) → Inside f r
+      go [] h n = inside-none f r n
+      go (i ∷ is) h n =
+          Or·elim le-prop (mem-append .0 n) (one i (h i mem-cons-self) (noBlock f i) refl r) (go is (λ j k. h j (mem-cons-of-mem i k)))

@@ -1,0 +1,37 @@
+-- Laws of lists in general, for the proofs of the other files: the entries that pass a test, and lists joined. Assumes nothing.
+use mathlib.Core.Bool.{Bool, true, false, cond}
+use mathlib.Core.List.{List, [], _∷_, flatMap, List·Mem, mem-cons-self, mem-cons-of-mem, mem-append, not-mem-nil, Sublistᴰ, Sublistᴰ·slnil, Sublistᴰ·cons, Sublistᴰ·cons-cons, Pairwise, Pairwise·nil, Pairwise·cons, List·Nodup, nodup-append, Disjoint}
+use mathlib.Core.Logic.{∥∥₁-elim, ∥∥₁-map, ∥∥₁-prop, Or·elim}
+use mathlib.Core.HLevel.{⊥-prop}
+use mathlib.Core.Path.{refl}
+use Rattle.pdi_spec.specs.Lists.{those}
+
+-- the entries that pass a test are some of the list, in its order
+pub those-sublist : {A : Type 0} (test : A → Bool) (xs : List A) → Sublistᴰ (those test xs) xs
+unfolding those
+those-sublist test [] = Sublistᴰ·slnil
+those-sublist test (x ∷ xs) = go (test x) (those-sublist test xs)
+  where
+    go : (b : Bool) → Sublistᴰ (those test xs) xs → Sublistᴰ (cond b (x ∷ those test xs) (those test xs)) (x ∷ xs)
+    go true rest = Sublistᴰ·cons-cons refl rest
+    go false rest = Sublistᴰ·cons rest
+
+module _ {A B : Type 0} (f : A → List B) where
+  -- what stands in the joined lists stands in the list of some entry
+  pub mem-flatMap : {y : B} (xs : List A) → List·Mem y (flatMap f xs) → ∥ ((x : A) × List·Mem x xs × List·Mem y (f x)) ∥₁
+  unfolding flatMap
+  mem-flatMap [] m = absurd (not-mem-nil m)
+  mem-flatMap (x ∷ xs) m =
+      Or·elim ∥∥₁-prop (mem-append .0 m) (λ here. ∣ (x, mem-cons-self, here) ∣₁)
+      (λ later. ∥∥₁-map (mem-flatMap xs later) (λ r. (r .0, mem-cons-of-mem x (r .1), r .2)))
+
+  -- lists without a repeat, no two of which share an entry, join to a list without a repeat
+  pub nodup-flatMap : ((x : A) → List·Nodup (f x))
+      → {xs : List A} → Pairwise (λ (x y : A). Disjoint (f x) (f y)) xs → List·Nodup (flatMap f xs)
+  unfolding flatMap
+  nodup-flatMap single Pairwise·nil = Pairwise·nil
+  nodup-flatMap single (Pairwise·cons {a = x} {l = xs} h p) =
+      nodup-append .1 (single x, nodup-flatMap single p, apart)
+    where
+      apart : Disjoint (f x) (flatMap f xs)
+      apart y here later = ∥∥₁-elim (mem-flatMap xs later) ⊥-prop (λ r. h (r .0) (r .1) y here (r .2))
