@@ -1,7 +1,7 @@
 -- Document 01, "What the reader does" and "What an acceptance writes": the complete answers of read, bill and body.
 -- Assumes nothing.
-use Prim.Native.Nat.{ℕ, zero, suc, _+_, _*_}
-use mathlib.Core.Bool.{Bool, cond, not}
+use Prim.Native.Nat.{ℕ, _+_, _*_}
+use mathlib.Core.Bool.{cond}
 use mathlib.Core.List.{List, [], _∷_, _++_, map, flatMap}
 use lib.ListN.{length, take, drop}
 use Rattle.pdi_spec.specs.Lists.{sumOf}

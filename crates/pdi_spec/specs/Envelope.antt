@@ -3,11 +3,12 @@
 -- stated length, or too few or too many bytes." Assumes nothing.
 use Prim.Native.Nat.{ℕ, _+_, _*_}
 use mathlib.Core.Bool.{Bool, cond, not, _||_}
-use mathlib.Core.List.{List}
+use mathlib.Core.List.{List, reverse}
 use lib.ListN.{length, drop}
 use lib.Dec.{ltb, eqb}
 use Rattle.pdi_spec.specs.Table.{File}
 use Rattle.pdi_spec.specs.Words.{byteAt}
+use Rattle.pdi_spec.specs.Host.{leBytes}
 
 -- what the input holds: bad, or an image and a place
 pub data Envelope : Type 0 where
@@ -18,6 +19,10 @@ pub data Envelope : Type 0 where
 unfoldable pub bigEndianAt : List ℕ → ℕ → ℕ
 bigEndianAt input at =
     0x1000000 * byteAt input at + 0x10000 * byteAt input (at + 1) + 0x100 * byteAt input (at + 2) + byteAt input (at + 3)
+
+-- a number as such 4 bytes
+unfoldable pub bigEndian : ℕ → List ℕ
+bigEndian number = reverse (leBytes 4 number)
 
 -- version byte, image length, table place
 unfoldable pub envelopeHead : ℕ

@@ -3,7 +3,7 @@
 use Prim.Native.Nat.{ℕ, zero, suc, _+_, _*_, _/_}
 use mathlib.Core.Bool.{Bool, _&&_}
 use mathlib.Core.List.{List}
-use mathlib.Core.Option.{Option, Option·elim}
+use mathlib.Core.Option.{Option·elim}
 use lib.Dec.{eqb}
 use Rattle.pdi_spec.specs.Lists.{numbers, countOf, firstOf}
 use Rattle.pdi_spec.specs.Table.{File}

@@ -4,7 +4,7 @@
 use Prim.Native.Nat.{ℕ, zero, suc, _/_, _%_}
 use mathlib.Core.List.{List, [], _∷_, _++_, flatMap}
 use lib.ListN.{length, drop}
-use Rattle.pdi_spec.specs.Verdict.{Rule, verdict}
+use Rattle.pdi_spec.specs.Verdict.{verdict}
 use Rattle.pdi_spec.specs.RuleList.{hostRules}
 use Rattle.pdi_spec.specs.Answers.{answer, written, asked}
 

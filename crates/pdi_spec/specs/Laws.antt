@@ -1,9 +1,15 @@
 pub mod Bench
 pub mod Bill
+pub mod Clash
+pub mod ClashVerdict
+pub mod Demands
+pub mod Envelope
 pub mod HashBlock
 pub mod Kept
 pub mod Lists
 pub mod Loading
+pub mod Plain
+pub mod Questions
 pub mod Rows
 pub mod Tests
 pub mod Verdict

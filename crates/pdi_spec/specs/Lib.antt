@@ -1,6 +1,7 @@
 pub mod Answers
 pub mod Bench
 pub mod Boot
+pub mod Claims
 pub mod Envelope
 pub mod HashBlock
 pub mod Host

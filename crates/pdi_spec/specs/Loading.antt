@@ -1,13 +1,13 @@
 -- Document 01, "Positions, memory and claims": loading. "A memory has one byte at each address from 0 to 2^64 - 1. Loading starts
 -- from any memory. It is fed a list of the partitions with a load address, each once, in any order, and any 4U bytes for each."
 -- Assumes nothing. A memory is given for every number; Claims.antt says that no address from 2^64 on is written.
-use Prim.Native.Nat.{ℕ, zero, suc, _+_, _-_, _*_, _<_}
-use mathlib.Core.Bool.{Bool, true, false, cond}
+use Prim.Native.Nat.{ℕ, _+_, _-_, _<_}
+use mathlib.Core.Bool.{false, cond}
 use mathlib.Core.List.{List, [], _∷_, map, flatMap, List·Mem, List·Nodup, Perm}
 use mathlib.Core.Path.{_≡_}
 use lib.ListN.{length, getD}
 use Rattle.pdi_spec.specs.Lists.{numbers}
-use Rattle.pdi_spec.specs.Ranges.{Range, LoadRange, loadsTo, addressSpace}
+use Rattle.pdi_spec.specs.Ranges.{LoadRange, loadsTo, addressSpace}
 use Rattle.pdi_spec.specs.Stated.{Stated, loadable}
 
 abbrev pub Memory : Type 0

@@ -1,9 +1,8 @@
 -- Document 01, "The words", the chain of partition headers and a partition header's fields (128 bytes each; source 000).
 -- Partitions are counted from 1. Header offsets count words from image byte 0. Assumes nothing.
 use Prim.Native.Nat.{ℕ, zero, suc, _+_, _*_, _^_}
-use mathlib.Core.Bool.{Bool, _||_}
-use mathlib.Core.List.{List, [], _∷_}
-use lib.Dec.{eqb}
+use mathlib.Core.Bool.{Bool}
+use mathlib.Core.List.{[], _∷_}
 use Rattle.pdi_spec.specs.Lists.{isIn}
 use Rattle.pdi_spec.specs.Table.{File, firstHeaderOffset}
 use Rattle.pdi_spec.specs.Words.{wordAt, bits}

@@ -1,7 +1,7 @@
 -- Document 01, "Span", rules 16, 18 and 19, "Positions, memory and claims": the ranges of stored bytes and of load addresses.
 -- Assumes nothing.
-use Prim.Native.Nat.{ℕ, zero, suc, _+_, _*_, _-_, min, max, _^_, _<_}
-use mathlib.Core.Bool.{Bool, cond, _&&_, not, So}
+use Prim.Native.Nat.{ℕ, suc, _+_, _*_, min, max, _^_}
+use mathlib.Core.Bool.{Bool, cond, _&&_}
 use mathlib.Core.List.{List, [], _∷_, _++_, map, flatMap}
 use lib.Dec.{leb, ltb, eqb}
 use Rattle.pdi_spec.specs.Lists.{numbers}

@@ -4,9 +4,9 @@ use mathlib.Core.List.{List, [], _∷_, _++_}
 use Rattle.pdi_spec.specs.Verdict.{Rule, once, each, eachAndTable}
 use Rattle.pdi_spec.specs.Rules.{imageTooLong, bufferTooShort, tableOutside, tableChecksumWrong, kindUnknown, tableFieldsWrong, tableKeyUnknown, bootHeaderWrong, imageHeadersOutside, chainBroken, headerChecksumWrong, attributesWrong, keyUnknown, lengthsWrong, spanOutside, loadAddressWrong, hashBlockWrong, storedRangesClash, loadRangesClash}
 
--- rules 3 to 17
-unfoldable pub headerRules : List Rule
-headerRules =
+-- rules 3 to 9, of the table, the boot header and the image headers
+unfoldable pub tableRules : List Rule
+tableRules =
     once 3 tableOutside
     ∷ once 4 tableChecksumWrong
     ∷ once 5 kindUnknown
@@ -14,7 +14,12 @@ headerRules =
     ∷ once 7 tableKeyUnknown
     ∷ once 8 bootHeaderWrong
     ∷ once 9 imageHeadersOutside
-    ∷ each 10 chainBroken
+    ∷ []
+
+-- rules 10 to 17, of the partition headers and the hash blocks
+unfoldable pub partitionRules : List Rule
+partitionRules =
+    each 10 chainBroken
     ∷ each 11 headerChecksumWrong
     ∷ each 12 attributesWrong
     ∷ each 13 keyUnknown
@@ -23,6 +28,10 @@ headerRules =
     ∷ each 16 loadAddressWrong
     ∷ eachAndTable 17 hashBlockWrong
     ∷ []
+
+-- rules 3 to 17
+unfoldable pub headerRules : List Rule
+headerRules = tableRules ++ partitionRules
 
 -- rules 18 and 19
 unfoldable pub clashRules : List Rule

@@ -1,8 +1,8 @@
 -- Document 01, "Rules by number": each rule's condition, "Broken when", under its table row or its paragraph.
 -- The lists that gather them are in RuleList.antt. Assumes nothing.
-use Prim.Native.Nat.{ℕ, _+_, _*_, _-_, _%_}
+use Prim.Native.Nat.{ℕ, _*_, _-_, _%_}
 use mathlib.Core.Bool.{Bool, cond, not, _&&_, _||_}
-use mathlib.Core.List.{List, [], _∷_, _++_}
+use mathlib.Core.List.{[], _∷_, _++_}
 use lib.ListN.{length}
 use lib.Dec.{ltb, eqb}
 use Rattle.pdi_spec.specs.Lists.{numbers, anyTrue, anyOf, anyPair, isIn}
@@ -13,7 +13,7 @@ use Rattle.pdi_spec.specs.Boot.{bootSize, widthDetection, XNLX, bootKey,
 use Rattle.pdi_spec.specs.Partition.{headerAt, encrypted, unencrypted, total, next, loadLow, loadHigh, attributes, checksumOffset, key, keyTotal, keyActual, signatureTotal, signatureActual, headerReserved, headerChecksum}
 use Rattle.pdi_spec.specs.Partition.{clusterOf, dpaOf, typeOf, reservedOf, tcmFlagOf, ownerOf, checksumTypeOf, cpuOf, lockstepOf}
 use Rattle.pdi_spec.specs.HashBlock.{blockLength, blockOffset, noBlock, sizeOfEntries, entriesIn, ownEntries}
-use Rattle.pdi_spec.specs.Ranges.{Range, endOf, past, overlap, sameRange, tableRange, tableWithOptional, imageHeaders, headerRange, span, blockRange, spans, bodies, headerRanges, hashBlocks, meet, loads, loadRange, addressSpace}
+use Rattle.pdi_spec.specs.Ranges.{Range, past, overlap, sameRange, tableRange, tableWithOptional, imageHeaders, headerRange, span, blockRange, spans, bodies, headerRanges, hashBlocks, meet, loads, loadRange, addressSpace}
 
 -- not `low` to `high`
 unfoldable pub notFrom : ℕ → ℕ → ℕ → Bool

@@ -3,7 +3,7 @@
 -- numbers in the rows." What is said of loading and of the bill is said of either. Assumes nothing.
 use Prim.Native.Nat.{ℕ, zero, suc, _+_, _*_}
 use mathlib.Core.Bool.{Bool}
-use mathlib.Core.List.{List, map}
+use mathlib.Core.List.{List}
 use lib.ListN.{getD}
 use Rattle.pdi_spec.specs.Lists.{numbers, anyOf, countOf, those}
 use Rattle.pdi_spec.specs.Table.{File, partitions}

@@ -1,5 +1,5 @@
 -- Document 01, "The words", the table (128 bytes, at the table place; source 003). Assumes nothing.
-use Prim.Native.Nat.{ℕ, _+_, _*_}
+use Prim.Native.Nat.{ℕ, _+_}
 use mathlib.Core.Bool.{Bool, cond}
 use mathlib.Core.List.{List, [], _∷_}
 use Rattle.pdi_spec.specs.Lists.{numbers}

@@ -1,6 +1,6 @@
 -- Document 01, "Positions, memory and claims": positions and addresses that are claimed twice. Assumes nothing.
-use Prim.Native.Nat.{ℕ, suc, _≤_, _<_}
-use mathlib.Core.Bool.{Bool, So}
+use Prim.Native.Nat.{ℕ, _≤_, _<_}
+use mathlib.Core.Bool.{So}
 use mathlib.Core.List.{List, [], _∷_, _++_, List·Mem, Sublist}
 use mathlib.Core.Logic.{_≢_}
 use lib.ListN.{length}

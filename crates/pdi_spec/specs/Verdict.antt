@@ -4,7 +4,7 @@
 use Prim.Native.Nat.{ℕ, suc}
 use mathlib.Core.Bool.{Bool, true, false}
 use mathlib.Core.List.{List, [], _∷_, _++_, List·Mem}
-use mathlib.Core.Option.{Option, Option·elim}
+use mathlib.Core.Option.{Option·elim}
 use mathlib.Core.Path.{_≡_}
 use Rattle.pdi_spec.specs.Lists.{numbers, firstOf}
 use Rattle.pdi_spec.specs.Table.{File, partitions, partitionNumbers}

@@ -1,7 +1,7 @@
 -- Document 01, "The words": bytes, 32-bit little-endian words, runs of words and their checksums, bit fields, byte strings.
 -- Every reading is total: a byte past the end reads as 0. Assumes nothing; no definition asks that a byte is below 256.
-use Prim.Native.Nat.{ℕ, zero, suc, _+_, _-_, _*_, _/_, _%_, _^_}
-use mathlib.Core.Bool.{Bool, true, false, _&&_}
+use Prim.Native.Nat.{ℕ, suc, _+_, _-_, _*_, _/_, _%_, _^_}
+use mathlib.Core.Bool.{Bool, true, _&&_}
 use mathlib.Core.List.{List, [], _∷_, map}
 use lib.ListN.{getD}
 use lib.Dec.{eqb}

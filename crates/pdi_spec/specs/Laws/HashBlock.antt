@@ -3,7 +3,7 @@
 use Prim.Native.Nat.{ℕ, _+_, _<_}
 use native.Mathlib.Omega.{arith}
 use native.Mathlib.Nat.{ℕ-set}
-use mathlib.Core.Bool.{Bool, true, false, cond, not}
+use mathlib.Core.Bool.{Bool, true, false, cond}
 use mathlib.Core.List.{List, [], _∷_, List·Mem, mem-cons-self, mem-cons-of-mem, eq-or-mem-of-mem-cons}
 use mathlib.Core.Logic.{⊎-elim, Or·elim}
 use mathlib.Core.Option.{some, Option·elim}

@@ -1,23 +1,23 @@
 -- What a kept rule tells of the file, by the kinds of rules; and that the ranges of rule 18 lie inside the image where rules 3 to 17
 -- are kept. Assumes nothing.
-use Prim.Native.Nat.{ℕ, zero, suc, _+_, _*_, _%_, _≤_, _<_}
+use Prim.Native.Nat.{ℕ, zero, suc, _%_, _≤_, _<_}
 use native.Mathlib.Omega.{arith}
 use native.Mathlib.Bridge.{le-prop}
-use mathlib.Core.Bool.{Bool, true, false, cond, not, _&&_, _||_}
-use mathlib.Core.List.{List, [], _∷_, _++_, map, flatMap, List·Mem, List·Memᴰ·head, List·Memᴰ·cases-cons, mem-cons-self, mem-cons-of-mem, not-mem-nil, List·Memᴰ·eq-of-singleton, mem-append, mem-append-left, mem-append-right, exists-of-mem-map}
-use mathlib.Core.Logic.{_⊎_, inl, inr, ⊎-elim, ∥∥₁-elim, Or·elim}
+use mathlib.Core.Bool.{Bool, true, false, cond, not, _&&_}
+use mathlib.Core.List.{List, [], _∷_, _++_, map, flatMap, List·Mem, List·Memᴰ·cases-cons, mem-cons-self, mem-cons-of-mem, not-mem-nil, mem-append, exists-of-mem-map}
+use mathlib.Core.Logic.{⊎-elim, ∥∥₁-elim, Or·elim}
 use mathlib.Core.Path.{_≡_, refl, sym, _∙_, ap, subst}
-use lib.Dec.{ltb, eqb, lit<}
+use lib.Dec.{eqb, lit<}
 use lib.ListN.{length, getD}
 use borrow.Author.Tests.{ltb-false}
 use Rattle.pdi_spec.specs.Lists.{numbers}
 use Rattle.pdi_spec.specs.Table.{File, partitions, partitionNumbers, isFull, headerSize}
 use Rattle.pdi_spec.specs.Boot.{bootSize}
 use Rattle.pdi_spec.specs.HashBlock.{noBlock}
-use Rattle.pdi_spec.specs.Ranges.{Range, endOf, past, bootRange, tableRange, tableWithOptional, imageHeaders, headerRange, span, blockRange, spans, headerRanges, hashBlocks}
+use Rattle.pdi_spec.specs.Ranges.{Range, endOf, past, bootRange, tableRange, tableWithOptional, imageHeaders, headerRange, span, blockRange, spans, headerRanges, hashBlocks, loads, loadRange, addressSpace}
 use Rattle.pdi_spec.specs.Verdict.{Rule, once, each, eachAndTable, Kept, Keeps}
-use Rattle.pdi_spec.specs.Rules.{pastImage, tableOutside, bootHeaderWrong, bootHeaderBad, imageHeadersOutside, chainBroken, spanOutside, hashBlockWrong, hashBlockBad}
-use Rattle.pdi_spec.specs.RuleList.{headerRules}
+use Rattle.pdi_spec.specs.Rules.{pastImage, tableOutside, bootHeaderWrong, bootHeaderBad, imageHeadersOutside, chainBroken, spanOutside, loadAddressWrong, hashBlockWrong, hashBlockBad}
+use Rattle.pdi_spec.specs.RuleList.{tableRules, partitionRules, headerRules}
 use Rattle.pdi_spec.specs.Laws.Tests.{or-left, or-right, false-at, numbers-mem}
 
 -- ---- by the kinds of rules
@@ -53,33 +53,37 @@ module _ (f : File) (keeps : Keeps headerRules f) where
   kept-at i d h = keeps (getD headerRules i d) (mem-at headerRules i d h)
 
   pub rule-3 : tableOutside f ≡ false
-  unfolding headerRules
+  unfolding headerRules tableRules partitionRules
   rule-3 = kept-once 3 tableOutside f (kept-at 0 (once 0 tableOutside) (lit< tt))
 
   pub rule-8 : bootHeaderWrong f ≡ false
-  unfolding headerRules
+  unfolding headerRules tableRules partitionRules
   rule-8 = kept-once 8 bootHeaderWrong f (kept-at 5 (once 0 tableOutside) (lit< tt))
 
   pub rule-9 : imageHeadersOutside f ≡ false
-  unfolding headerRules
+  unfolding headerRules tableRules partitionRules
   rule-9 = kept-once 9 imageHeadersOutside f (kept-at 6 (once 0 tableOutside) (lit< tt))
 
   pub rule-10 : (p : ℕ) → List·Mem p (partitionNumbers f) → chainBroken f p ≡ false
-  unfolding headerRules
+  unfolding headerRules tableRules partitionRules
   rule-10 = kept-each 10 chainBroken f (kept-at 7 (once 0 tableOutside) (lit< tt))
 
   pub rule-15 : (p : ℕ) → List·Mem p (partitionNumbers f) → spanOutside f p ≡ false
-  unfolding headerRules
+  unfolding headerRules tableRules partitionRules
   rule-15 = kept-each 15 spanOutside f (kept-at 12 (once 0 tableOutside) (lit< tt))
 
+  pub rule-16 : (p : ℕ) → List·Mem p (partitionNumbers f) → loadAddressWrong f p ≡ false
+  unfolding headerRules tableRules partitionRules
+  rule-16 = kept-each 16 loadAddressWrong f (kept-at 13 (once 0 tableOutside) (lit< tt))
+
   pub rule-17 : (p : ℕ) → List·Mem p (numbers 0 (suc (partitions f))) → hashBlockWrong f p ≡ false
-  unfolding headerRules
+  unfolding headerRules tableRules partitionRules
   rule-17 = kept-with-table 17 hashBlockWrong f (kept-at 14 (once 0 tableOutside) (lit< tt))
 
 -- ---- inside the image
 
 -- the range's end is at most the image's length
-pub Inside : File → Range → Type 0
+unfoldable pub Inside : File → Range → Type 0
 Inside f r = endOf r ≤ length (f .bytes)
 
 pub not-past : (f : File) (r : Range) → pastImage f r ≡ false → Inside f r
@@ -89,6 +93,11 @@ not-past f r e = ltb-false (length (f .bytes)) (endOf r) e
 pub span-inside : (f : File) (p : ℕ) → spanOutside f p ≡ false → Inside f (span f p)
 unfolding spanOutside
 span-inside f p e = not-past f (span f p) (or-left (pastImage f (span f p)) _ e)
+
+-- a load range that rule 16 has passed ends in the address space
+pub load-in-space : (f : File) (p : ℕ) → loads f p ≡ true → loadAddressWrong f p ≡ false → past addressSpace (loadRange f p .addresses) ≡ false
+unfolding loadAddressWrong
+load-in-space f p l k = rw l at k
 
 -- what holds of f x for each x of a list holds of each entry of the mapped list
 inside-map : (f : File) (g : ℕ → Range) (xs : List ℕ) → ((x : ℕ) → List·Mem x xs → Inside f (g x))

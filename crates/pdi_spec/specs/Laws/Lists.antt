@@ -1,9 +1,9 @@
 -- Laws of lists in general, for the proofs of the other files: the entries that pass a test, and lists joined. Assumes nothing.
 use mathlib.Core.Bool.{Bool, true, false, cond}
-use mathlib.Core.List.{List, [], _∷_, flatMap, List·Mem, mem-cons-self, mem-cons-of-mem, mem-append, not-mem-nil, Sublistᴰ, Sublistᴰ·slnil, Sublistᴰ·cons, Sublistᴰ·cons-cons, Pairwise, Pairwise·nil, Pairwise·cons, List·Nodup, nodup-append, Disjoint}
+use mathlib.Core.List.{List, [], _∷_, _++_, flatMap, List·Mem, mem-cons-self, mem-cons-of-mem, mem-append, mem-append-left, mem-append-right, not-mem-nil, eq-or-mem-of-mem-cons, Sublistᴰ, Sublistᴰ·slnil, Sublistᴰ·cons, Sublistᴰ·cons-cons, Pairwise, Pairwise·nil, Pairwise·cons, List·Nodup, nodup-append, Disjoint}
 use mathlib.Core.Logic.{∥∥₁-elim, ∥∥₁-map, ∥∥₁-prop, Or·elim}
 use mathlib.Core.HLevel.{⊥-prop}
-use mathlib.Core.Path.{refl}
+use mathlib.Core.Path.{refl, sym, subst}
 use Rattle.pdi_spec.specs.Lists.{those}
 
 -- the entries that pass a test are some of the list, in its order
@@ -25,6 +25,14 @@ module _ {A B : Type 0} (f : A → List B) where
       Or·elim ∥∥₁-prop (mem-append .0 m) (λ here. ∣ (x, mem-cons-self, here) ∣₁)
       (λ later. ∥∥₁-map (mem-flatMap xs later) (λ r. (r .0, mem-cons-of-mem x (r .1), r .2)))
 
+  -- and the other way round
+  pub flatMap-mem : {y : B} (xs : List A) {x : A} → List·Mem x xs → List·Mem y (f x) → List·Mem y (flatMap f xs)
+  unfolding flatMap
+  flatMap-mem [] m k = absurd (not-mem-nil m)
+  flatMap-mem {y} (z ∷ zs) m k =
+      Or·elim ∥∥₁-prop (eq-or-mem-of-mem-cons m) (λ e. mem-append-left (flatMap f zs) (subst (λ (x : A). List·Mem y (f x)) e k))
+      (λ l. mem-append-right (f z) (flatMap-mem zs l k))
+
   -- lists without a repeat, no two of which share an entry, join to a list without a repeat
   pub nodup-flatMap : ((x : A) → List·Nodup (f x))
       → {xs : List A} → Pairwise (λ (x y : A). Disjoint (f x) (f y)) xs → List·Nodup (flatMap f xs)
@@ -35,3 +43,18 @@ module _ {A B : Type 0} (f : A → List B) where
     where
       apart : Disjoint (f x) (flatMap f xs)
       apart y here later = ∥∥₁-elim (mem-flatMap xs later) ⊥-prop (λ r. h (r .0) (r .1) y here (r .2))
+
+-- ---- what holds of every entry of a list, written out entry by entry
+
+abbrev pub Every : {A : Type 0} → (A → Type 0) → List A → Type 0
+Every P [] = Unit {0}
+Every P (x ∷ xs) = P x × Every P xs
+
+pub every-mem : {A : Type 0} (P : A → Type 0) → ((x : A) → IsProp (P x)) → (xs : List A) → Every P xs → (x : A) → List·Mem x xs → P x
+every-mem P prop [] h x m = absurd (not-mem-nil m)
+every-mem P prop (y ∷ ys) h x m =
+    Or·elim (prop x) (eq-or-mem-of-mem-cons m) (λ e. subst P (sym e) (h .0)) (λ k. every-mem P prop ys (h .1) x k)
+
+pub every-append : {A : Type 0} (P : A → Type 0) (xs ys : List A) → Every P xs → Every P ys → Every P (xs ++ ys)
+every-append P [] ys h k = k
+every-append P (x ∷ xs) ys h k = (h .0, every-append P xs ys (h .1) k)

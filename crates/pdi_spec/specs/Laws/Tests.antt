@@ -1,17 +1,17 @@
 -- Laws of the tests of Lists.antt and Ranges.antt: what a passed or failed test tells, and how to pass one. Assumes nothing.
-use Prim.Native.Nat.{ℕ, zero, suc, _+_, _*_, _≤_, _<_, min, max}
+use Prim.Native.Nat.{ℕ, zero, suc, _+_, _≤_, _<_, min, max}
 use native.Mathlib.Omega.{arith}
-use native.Mathlib.Decide.{decLe, decLt}
-use mathlib.Core.Bool.{Bool, true, false, cond, _&&_, _||_, not, So, true≢false, false≢true, Bool-set}
-use mathlib.Core.List.{List, [], _∷_, _++_, map, List·Mem, List·Memᴰ, List·Memᴰ·head, List·Memᴰ·tail, List·Memᴰ·cases-cons, List·Memᴰ·not-nil, mem-cons-self, mem-cons-of-mem, eq-or-mem-of-mem-cons, not-mem-nil, singleton-sublist, Sublist, Sublistᴰ·cons, Sublistᴰ·cons-cons, Sublistᴰ·eq-nil, Sublistᴰ·cases-cons-cons, cons≢nil, Pairwise, Pairwise·nil, Pairwise·cons}
+use native.Mathlib.Decide.{decLe}
+use mathlib.Core.Bool.{Bool, true, false, _&&_, _||_, not, true≢false, false≢true, Bool-set}
+use mathlib.Core.List.{List, [], _∷_, List·Mem, List·Memᴰ, List·Memᴰ·head, List·Memᴰ·cases-cons, mem-cons-of-mem, not-mem-nil, singleton-sublist, Sublist, Sublistᴰ·cons, Sublistᴰ·cons-cons, Sublistᴰ·eq-nil, Sublistᴰ·cases-cons-cons, cons≢nil, Pairwise, Pairwise·nil, Pairwise·cons}
 use mathlib.Core.HLevel.{×-prop}
-use mathlib.Core.Logic.{_↔_, _⊎_, inl, inr, ⊎-elim, ∥∥₁-elim, ∥∥₁-map}
+use mathlib.Core.Logic.{_⊎_, inl, inr, ⊎-elim, ∥∥₁-elim, ∥∥₁-map}
 use native.Mathlib.Bridge.{le-prop}
-use mathlib.Core.Path.{_≡_, refl, sym, _∙_, ap, subst}
-use lib.Dec.{leb, ltb, eqb}
+use mathlib.Core.Path.{_≡_, refl, sym, _∙_, ap}
+use lib.Dec.{leb, ltb}
 use lib.ListN.{getD}
-use borrow.Author.Tests.{ltb-true, ltb-false, leb-true, leb-false, eqb-true, eqb-false, lt-ltb, le-ltb, le-leb, lt-leb, eq-eqb, ne-eqb}
-use Rattle.pdi_spec.specs.Lists.{numbers, anyTrue, anyOf, anyPair, those, countOf, firstOf}
+use borrow.Author.Tests.{ltb-true, leb-true, lt-ltb, le-leb}
+use Rattle.pdi_spec.specs.Lists.{numbers, anyTrue, anyOf, anyPair}
 use Rattle.pdi_spec.specs.Ranges.{Range, endOf, within, overlap}
 
 -- ---- Boolean tests

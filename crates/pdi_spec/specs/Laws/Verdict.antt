@@ -1,16 +1,18 @@
 -- Laws of `verdict`, for any list of rules: it accepts exactly where every rule is kept, and it refuses with a number and a p
 -- exactly where a rule of that number is the first that is broken, first at p. Assumes nothing.
-use Prim.Native.Nat.{ℕ, zero, suc, _<_}
+use Prim.Native.Nat.{ℕ, _≤_, _<_}
+use native.Mathlib.Bridge.{le-prop}
+use native.Mathlib.Decide.{decLt}
 use native.Mathlib.Omega.{arith}
 use mathlib.Core.Bool.{Bool, true, false, cond, Bool-set}
-use mathlib.Core.List.{List, [], _∷_, _++_, map, List·Mem, List·Memᴰ·head, List·Memᴰ·cases-cons, mem-cons-self, mem-cons-of-mem, not-mem-nil, mem-append-right, mem-map-of-mem, cons≢nil, Pairwise, Pairwise·nil, Pairwise·cons}
-use mathlib.Core.Logic.{_↔_, _⊎_, inl, inr, ⊎-elim, ∥∥₁-elim}
+use mathlib.Core.List.{List, [], _∷_, _++_, List·Mem, List·Memᴰ·cases-cons, mem-cons-self, mem-cons-of-mem, not-mem-nil, mem-append, mem-append-right, eq-or-mem-of-mem-cons, Pairwise, pairwise-append, rel-of-pairwise-cons}
+use mathlib.Core.Logic.{_⊎_, inl, inr, ⊎-elim, ∥∥₁-elim, Or·elim}
 use mathlib.Core.Option.{Option, none, some, Option·elim}
 use mathlib.Core.Path.{_≡_, refl, sym, _∙_, ap, subst}
-use Rattle.pdi_spec.specs.Lists.{firstOf}
+use Rattle.pdi_spec.specs.Lists.{numbers, firstOf}
 use Rattle.pdi_spec.specs.Table.{File}
-use Rattle.pdi_spec.specs.Verdict.{Rule, Outcome, accepted, refused, verdict, Kept, Keeps, FirstBroken, FirstRefusal}
-use Rattle.pdi_spec.specs.Laws.Tests.{either, never-both, is-not-true}
+use Rattle.pdi_spec.specs.Verdict.{Rule, accepted, refused, verdict, Kept, Keeps, FirstRefusal}
+use Rattle.pdi_spec.specs.Laws.Tests.{either, never-both, mem-numbers, numbers-mem, numbers-ascending}
 
 -- ---- the first entry that passes a test
 
@@ -21,6 +23,9 @@ pub record First (test : ℕ → Bool) (xs : List ℕ) (x : ℕ) : Type 0 where
   pub split : xs ≡ before ++ (x ∷ after)
   pub passes : test x ≡ true
   pub none-before : (e : ℕ) → List·Mem e before → test e ≡ false
+
+pub first-mem : (test : ℕ → Bool) (xs : List ℕ) (x : ℕ) → First test xs x → List·Mem x xs
+first-mem test xs x t = subst (λ (l : List ℕ). List·Mem x l) (sym (t .split)) (mem-append-right (t .before) mem-cons-self)
 
 -- what holds of the head and of every later entry holds of every entry
 pub mem-either : {A : Type 0} (test : A → Bool) (x : A) (xs : List A) → test x ≡ false → ((e : A) → List·Mem e xs → test e ≡ false)
@@ -91,11 +96,25 @@ verdict-step r rs f o e = ap (λ (q : Option ℕ). Option·elim q (verdict rs f)
 pub accepted-not-refused : {k p : ℕ} → accepted ≡ refused k p → ⊥
 accepted-not-refused e = let z : _≡_ {A = ℕ} 0 1 = cc in omega arith
 
+-- a rule that is first broken at p is what the list refuses with
+pub verdict-broken : (r : Rule) (rs : List Rule) (f : File) (p : ℕ) → firstOf (r .broken f) (r .tried f) ≡ some p
+    → verdict (r ∷ rs) f ≡ refused (r .number) p
+unfolding Option·elim
+verdict-broken r rs f p e = verdict-step r rs f (some p) e
+
+-- a kept rule leaves the verdict to the rest of the list
 pub verdict-kept : (r : Rule) (rs : List Rule) (f : File) → Kept r f → verdict (r ∷ rs) f ≡ verdict rs f
 unfolding Kept Option·elim
 verdict-kept r rs f k = verdict-step r rs f none (none-first (r .broken f) (r .tried f) k)
 
-keeps-cons : (r : Rule) (rs : List Rule) (f : File) → Kept r f → Keeps rs f → Keeps (r ∷ rs) f
+-- and so do several
+pub verdict-skip : (before rs : List Rule) (f : File) → Keeps before f → verdict (before ++ rs) f ≡ verdict rs f
+unfolding Keeps
+verdict-skip [] rs f k = refl
+verdict-skip (r ∷ before) rs f k =
+    verdict-kept r (before ++ rs) f (k r mem-cons-self) ∙ verdict-skip before rs f (λ s m. k s (mem-cons-of-mem r m))
+
+pub keeps-cons : (r : Rule) (rs : List Rule) (f : File) → Kept r f → Keeps rs f → Keeps (r ∷ rs) f
 unfolding Keeps Kept
 keeps-cons r rs f k ks s m p t =
     ∥∥₁-elim m (Bool-set (s .broken f p) false)
@@ -158,17 +177,62 @@ refused-first (r ∷ rs) f k p e = go (refused-first rs f k p) (firstOf (r .brok
 
 -- and where a rule is the first broken one, the list refuses with it
 pub first-refused : (rs : List Rule) (f : File) (k p : ℕ) → FirstRefusal rs f k p → verdict rs f ≡ refused k p
-unfolding Option·elim Keeps
-first-refused rs f k p t = ap (λ (l : List Rule). verdict l f) (t .listed) ∙ go (t .earlier) (t .earlier-kept)
-  where
-    broken : verdict (t .rule ∷ t .later) f ≡ refused k p
-    broken =
-        let b = t .first-broken in
-        verdict-step (t .rule) (t .later) f (some p)
-        (ap (firstOf (t .rule .broken f)) (b .tried-so) ∙ split-first (t .rule .broken f) (b .before) p (b .after) (b .breaks) (b .not-before))
-        ∙ ap (λ (n : ℕ). refused n p) (t .numbered)
+first-refused rs f k p t =
+    let b = t .first-broken in
+    ap (λ (l : List Rule). verdict l f) (t .listed)
+    ∙ verdict-skip (t .earlier) (t .rule ∷ t .later) f (t .earlier-kept)
+    ∙ verdict-broken (t .rule) (t .later) f p
+    (ap (firstOf (t .rule .broken f)) (b .tried-so) ∙ split-first (t .rule .broken f) (b .before) p (b .after) (b .breaks) (b .not-before))
+    ∙ ap (λ (n : ℕ). refused n p) (t .numbered)
 
-    go : (earlier : List Rule) → Keeps earlier f → verdict (earlier ++ (t .rule ∷ t .later)) f ≡ refused k p
-    go [] ks = broken
-    go (r ∷ rs′) ks =
-        verdict-kept r (rs′ ++ (t .rule ∷ t .later)) f (ks r mem-cons-self) ∙ go rs′ (λ s m. ks s (mem-cons-of-mem r m))
+-- ---- a refusal's number
+
+-- the rule that a refusal names stands in the list
+pub refusal-rule : (rs : List Rule) (f : File) (k p : ℕ) → verdict rs f ≡ refused k p → (r : Rule) × List·Mem r rs × (r .number ≡ k)
+refusal-rule rs f k p e =
+    let t = refused-first rs f k p e in
+    (t .rule, subst (λ (l : List Rule). List·Mem (t .rule) l) (sym (t .listed)) (mem-append-right (t .earlier) mem-cons-self), t .numbered)
+
+-- so a list none of whose rules has the number does not refuse with it
+pub no-such-number : (rs : List Rule) (f : File) (k p : ℕ) → ((r : Rule) → List·Mem r rs → k < r .number) → verdict rs f ≡ refused k p → ⊥
+no-such-number rs f k p h e = let t = refusal-rule rs f k p e in omega (arith, h (t .0) (t .1), t .2)
+
+pub refused-number : {k l p q : ℕ} → refused k p ≡ refused l q → k ≡ l
+refused-number e = cc
+
+pub refused-p : {k l p q : ℕ} → refused k p ≡ refused l q → p ≡ q
+refused-p e = cc
+
+-- ---- tried in ascending order, the first p is the smallest
+
+pub first-smallest : (test : ℕ → Bool) (a n p : ℕ) → First test (numbers a n) p → (e : ℕ) → a ≤ e → e < p → test e ≡ false
+first-smallest test a n p t e low h =
+    let b = mem-numbers a n (first-mem test (numbers a n) p t) in
+    let there = subst (λ (l : List ℕ). List·Mem e l) (t .split) (numbers-mem a n low (omega (arith, b .1))) in
+    let ordered = subst (λ (l : List ℕ). Pairwise (λ (x y : ℕ). x < y) l) (t .split) (numbers-ascending a n) in
+    let parts = pairwise-append (λ x y. le-prop) {l₁ = t .before} .0 ordered in
+    Or·elim (Bool-set (test e) false) (mem-append .0 there) (t .none-before e)
+    (λ m. Or·elim (Bool-set (test e) false) (eq-or-mem-of-mem-cons m) (λ q. absurd (omega arith))
+    (λ m′. let l = rel-of-pairwise-cons (parts .1) m′ in absurd (omega (arith, l))))
+
+pub smallest-first : (test : ℕ → Bool) (a n p : ℕ) → List·Mem p (numbers a n) → test p ≡ true
+    → ((e : ℕ) → a ≤ e → e < p → test e ≡ false) → firstOf test (numbers a n) ≡ some p
+smallest-first test a n p m h least = go (firstOf test (numbers a n)) refl
+  where
+    go : (o : Option ℕ) → firstOf test (numbers a n) ≡ o → firstOf test (numbers a n) ≡ some p
+    go none e = absurd (never-both h (first-none test (numbers a n) e p m))
+    go (some q) e = e ∙ ap some same
+      where
+        t : First test (numbers a n) q
+        t = first-some test (numbers a n) q e
+
+        same : q ≡ p
+        same =
+            elim (decLt q p) [
+              | yes l ↦ absurd (never-both (t .passes) (least q (mem-numbers a n (first-mem test (numbers a n) q t) .0) l))
+              | no l ↦
+                  elim (decLt p q) [
+                    | yes k ↦ absurd (never-both h (first-smallest test a n q t p (mem-numbers a n m .0) k))
+                    | no k ↦ omega arith
+                  ]
+            ]
