@@ -5,10 +5,9 @@ use mathlib.Core.Bool.{cond}
 use mathlib.Core.List.{List, [], _∷_, _++_, map, flatMap}
 use lib.ListN.{length, take, drop}
 use Rattle.pdi_spec.specs.Lists.{sumOf}
-use Rattle.pdi_spec.specs.Table.{File, kind, images, partitions, partitionNumbers}
-use Rattle.pdi_spec.specs.Partition.{total, executionAddress, loadAddress, key, attributes}
-use Rattle.pdi_spec.specs.HashBlock.{hashEntry}
-use Rattle.pdi_spec.specs.Ranges.{Range, span, bodyRange, loadRange}
+use Rattle.pdi_spec.specs.File.{File, table, partitions, partitionNumbers, header, blockOf}
+use Rattle.pdi_spec.specs.HashBlock.{hashEntryIn}
+use Rattle.pdi_spec.specs.Ranges.{Range, span, body, loadRange}
 use Rattle.pdi_spec.specs.Verdict.{Rule, Outcome, accepted, refused, verdict}
 use Rattle.pdi_spec.specs.Rules.{notFrom}
 use Rattle.pdi_spec.specs.RuleList.{rules, readRules}
@@ -39,26 +38,30 @@ unfoldable pub rowNumbers : Row → List ℕ
 rowNumbers r =
     r .spanStart ∷ r .spanLength ∷ r .loadedBytes ∷ r .load ∷ r .execution ∷ r .keyWord ∷ r .hashEntryOffset ∷ r .attributeWord ∷ []
 
+-- the hash entry of partition p
+unfoldable pub hashEntry : File → ℕ → ℕ
+hashEntry f p = hashEntryIn (f .bytes) (blockOf f p) p
+
 unfoldable pub rowOf : File → ℕ → Row
 rowOf f p =
     record {
       spanStart = span f p .start;
       spanLength = span f p .size;
       loadedBytes = loadRange f p .addresses .size;
-      load = loadAddress f p;
-      execution = executionAddress f p;
-      keyWord = key f p;
+      load = loadRange f p .addresses .start;
+      execution = header f p .execution;
+      keyWord = header f p .key;
       hashEntryOffset = hashEntry f p;
-      attributeWord = attributes f p;
+      attributeWord = header f p .attributes;
     }
 
 -- "Billed: 4 × the sum of all T."
 unfoldable pub billed : File → ℕ
-billed f = 4 * sumOf (map (total f) (partitionNumbers f))
+billed f = 4 * sumOf (map (λ (p : ℕ). header f p .total) (partitionNumbers f))
 
 -- "Head, four numbers: kind (1 full, 2 partial), images, partitions N, billed bytes."
 unfoldable pub head : File → List ℕ
-head f = kind f ∷ images f ∷ partitions f ∷ billed f ∷ []
+head f = table f .kind ∷ table f .images ∷ partitions f ∷ billed f ∷ []
 
 -- the head and N rows
 unfoldable pub headAndRows : File → List ℕ
@@ -84,7 +87,7 @@ cut r bytes = take (r .size) (drop (r .start) bytes)
 -- 1 to N"
 unfoldable pub bodyBy : List Rule → File → ℕ → List ℕ
 bodyBy rs f p =
-    ifAccepted (verdict rs f) (cond (notFrom 1 (partitions f) p) [] (cut (bodyRange f p) (f .bytes))) []
+    ifAccepted (verdict rs f) (cond (notFrom 1 (partitions f) p) [] (cut (body f p) (f .bytes))) []
 
 -- ---- the three questions, for any image, place, row buffer and p
 

@@ -13,14 +13,13 @@ use mathlib.Core.Path.{_≡_}
 use lib.ListN.{length, take, drop}
 use Rattle.pdi_spec.specs.Lists.{numbers}
 use Rattle.pdi_spec.specs.Words.{wordAt}
-use Rattle.pdi_spec.specs.Table.{File, kind, images, partitions}
-use Rattle.pdi_spec.specs.Partition.{dataOffset, total, encrypted, unencrypted, keyTotal, keyActual, signatureTotal, signatureActual, loadAddress, executionAddress, key, attributes}
-use Rattle.pdi_spec.specs.HashBlock.{noBlock, blockLength, blockOffset, sizeOfEntries, entriesIn, hashEntry}
-use Rattle.pdi_spec.specs.Ranges.{span, loadRange, loadsTo, loads}
+use Rattle.pdi_spec.specs.File.{File, table, partitions, header, blockOf}
+use Rattle.pdi_spec.specs.HashBlock.{noBlock, sizeOfEntries, entriesIn}
+use Rattle.pdi_spec.specs.Ranges.{span, loadAddressOf, loadRange, loadsTo, loads}
 use Rattle.pdi_spec.specs.Verdict.{Rule, once, each, eachAndTable, accepted, refused, verdict, Kept, Keeps, FirstRefusal}
-use Rattle.pdi_spec.specs.Rules.{imageTooLong, bufferTooShort, tableFieldsWrong, lengthsWrong, spanOutside, loadAddressWrong, hashBlockWrong, storedRangesClash, loadRangesClash}
-use Rattle.pdi_spec.specs.RuleList.{headerRules, rules, bufferRules, readRules, hostRules}
-use Rattle.pdi_spec.specs.Answers.{answer, billed, headAndRows, rowsAfter, billBy, bodyBy, cut, asked, readAnswer, readRows, billAnswer, bodyAnswer}
+use Rattle.pdi_spec.specs.Rules.{imageTooLong, bufferTooShort, tableFieldsBad, lengthsBad, spanOutside, loadAddressBad, hashBlockWrong, storedRangesClash, loadRangesClash}
+use Rattle.pdi_spec.specs.RuleList.{ofTable, ofHeader, withHeader, readingRules, rules, bufferRules, readRules, hostRules}
+use Rattle.pdi_spec.specs.Answers.{hashEntry, answer, billed, headAndRows, rowsAfter, billBy, bodyBy, cut, asked, readAnswer, readRows, billAnswer, bodyAnswer}
 use Rattle.pdi_spec.specs.Host.{leBytes, hostAnswer, hostRows}
 use Rattle.pdi_spec.specs.Envelope.{bigEndian, holds, envelope}
 use Rattle.pdi_spec.specs.Stated.{byHeaders, byRows, inSpans}
@@ -98,13 +97,13 @@ host-same-answer = Laws.Plain.host-same
 
 -- Accepted: the head, and each row, state the headers' words; past the rows the buffer is as found, and as long.
 pub head-stated : (rs : List Rule) (f : File) (rows : List ℕ) → verdict rs f ≡ accepted
-    → take 4 (rowsAfter rs f rows) ≡ kind f ∷ images f ∷ partitions f ∷ billed f ∷ []
+    → take 4 (rowsAfter rs f rows) ≡ table f .kind ∷ table f .images ∷ partitions f ∷ billed f ∷ []
 head-stated = Laws.Plain.head-stated
 
 pub row-stated : (rs : List Rule) (f : File) (rows : List ℕ) → verdict rs f ≡ accepted → (p : ℕ) → 1 ≤ p → p ≤ partitions f
     → take 8 (drop (4 + 8 * (p - 1)) (rowsAfter rs f rows))
-    ≡ 4 * dataOffset f p ∷ 4 * total f p ∷ 4 * unencrypted f p ∷ loadAddress f p ∷ executionAddress f p ∷ key f p ∷ hashEntry f p
-    ∷ attributes f p ∷ []
+    ≡ 4 * header f p .dataOffset ∷ 4 * header f p .total ∷ 4 * header f p .unencrypted ∷ loadAddressOf (header f p) ∷ header f p .execution ∷ header f p .key ∷ hashEntry f p
+    ∷ header f p .attributes ∷ []
 row-stated = Laws.Plain.row-stated
 
 pub rest-untouched : (rs : List Rule) (f : File) (rows : List ℕ) → verdict rs f ≡ accepted
@@ -121,28 +120,28 @@ pub host-rows : (image : List ℕ) (place : ℕ) (rows : List ℕ) → hostAnswe
 host-rows = Laws.Plain.host-rows
 
 -- What rules 6, 14, 15 and 16 ask, in plain numbers.
-pub counts-stated : (f : File) → Kept (once 6 tableFieldsWrong) f → (1 ≤ images f) × (images f ≤ 32) × (1 ≤ partitions f) × (partitions f ≤ 32)
+pub counts-stated : (f : File) → Kept (once 6 (ofTable tableFieldsBad)) f → (1 ≤ table f .images) × (table f .images ≤ 32) × (1 ≤ partitions f) × (partitions f ≤ 32)
 counts-stated = Laws.Plain.counts-stated
 
-pub lengths-stated : (f : File) (p : ℕ) → 1 ≤ p → p ≤ partitions f → Kept (each 14 lengthsWrong) f
-    → (1 ≤ unencrypted f p) × (unencrypted f p ≤ encrypted f p) × (encrypted f p ≤ total f p) × (keyActual f p ≤ keyTotal f p)
-    × (signatureActual f p ≤ signatureTotal f p)
+pub lengths-stated : (f : File) (p : ℕ) → 1 ≤ p → p ≤ partitions f → Kept (each 14 (ofHeader lengthsBad)) f
+    → (1 ≤ header f p .unencrypted) × (header f p .unencrypted ≤ header f p .encrypted) × (header f p .encrypted ≤ header f p .total) × (header f p .keyActual ≤ header f p .keyTotal)
+    × (header f p .signatureActual ≤ header f p .signatureTotal)
 lengths-stated = Laws.Plain.lengths-stated
 
-pub span-stated : (f : File) (p : ℕ) → 1 ≤ p → p ≤ partitions f → Kept (each 15 spanOutside) f
-    → 4 * dataOffset f p + 4 * total f p ≤ length (f .bytes)
+pub span-stated : (f : File) (p : ℕ) → 1 ≤ p → p ≤ partitions f → Kept (each 15 (withHeader spanOutside)) f
+    → 4 * header f p .dataOffset + 4 * header f p .total ≤ length (f .bytes)
 span-stated = Laws.Plain.span-stated
 
-pub load-stated : (f : File) (p : ℕ) → 1 ≤ p → p ≤ partitions f → Kept (each 16 loadAddressWrong) f → loads f p ≡ true
-    → loadAddress f p + 4 * unencrypted f p ≤ 0x1_0000_0000_0000_0000
+pub load-stated : (f : File) (p : ℕ) → 1 ≤ p → p ≤ partitions f → Kept (each 16 (ofHeader loadAddressBad)) f → loads f p ≡ true
+    → loadAddressOf (header f p) + 4 * header f p .unencrypted ≤ 0x1_0000_0000_0000_0000
 load-stated = Laws.Plain.load-stated
 
 -- The hash entry of a row is 0 where there is no block, and else the byte offset of the block's one entry with the own index; a block's
 -- length stands for one number of entries.
 pub hash-entry-stated : (f : File) → Kept (eachAndTable 17 hashBlockWrong) f → (p : ℕ) → 1 ≤ p → p ≤ partitions f
-    → ((noBlock f p ≡ true) × (hashEntry f p ≡ 0))
-    ⊎ ((k : ℕ) × (k < entriesIn (blockLength f p)) × (hashEntry f p ≡ 4 * blockOffset f p + 52 * k) × (wordAt (f .bytes) (hashEntry f p) ≡ p)
-    × ((j : ℕ) → j < entriesIn (blockLength f p) → wordAt (f .bytes) (4 * blockOffset f p + 52 * j) ≡ p → j ≡ k))
+    → ((noBlock (blockOf f p) ≡ true) × (hashEntry f p ≡ 0))
+    ⊎ ((k : ℕ) × (k < entriesIn (blockOf f p .size)) × (hashEntry f p ≡ 4 * blockOf f p .offset + 52 * k) × (wordAt (f .bytes) (hashEntry f p) ≡ p)
+    × ((j : ℕ) → j < entriesIn (blockOf f p .size) → wordAt (f .bytes) (4 * blockOf f p .offset + 52 * j) ≡ p → j ≡ k))
 hash-entry-stated = Laws.Plain.hash-entry-stated
 
 pub entries-unique : (n : ℕ) → entriesIn (sizeOfEntries n) ≡ n
@@ -157,13 +156,13 @@ pub fourth-is-bill : (image : List ℕ) (place : ℕ) (rows : List ℕ) → read
 fourth-is-bill = Laws.Plain.fourth-is-bill
 
 -- The body is the first 4E bytes of the span, and as many; of a p that isn't 1 to N it is empty.
-pub body-stated : (rs : List Rule) (f : File) → verdict rs f ≡ accepted → List·Mem (each 14 lengthsWrong) rs → List·Mem (each 15 spanOutside) rs
+pub body-stated : (rs : List Rule) (f : File) → verdict rs f ≡ accepted → List·Mem (each 14 (ofHeader lengthsBad)) rs → List·Mem (each 15 (withHeader spanOutside)) rs
     → (p : ℕ) → 1 ≤ p → p ≤ partitions f
-    → (bodyBy rs f p ≡ take (4 * encrypted f p) (cut (span f p) (f .bytes))) × (length (bodyBy rs f p) ≡ 4 * encrypted f p)
+    → (bodyBy rs f p ≡ take (4 * header f p .encrypted) (cut (span f p) (f .bytes))) × (length (bodyBy rs f p) ≡ 4 * header f p .encrypted)
 body-stated = Laws.Plain.body-stated
 
 pub body-answer-stated : (image : List ℕ) (place p : ℕ) → verdict rules (asked image place) ≡ accepted → 1 ≤ p → p ≤ partitions (asked image place)
-    → bodyAnswer image place p ≡ take (4 * encrypted (asked image place) p) (cut (span (asked image place) p) image)
+    → bodyAnswer image place p ≡ take (4 * header (asked image place) p .encrypted) (cut (span (asked image place) p) image)
 body-answer-stated = Laws.Plain.body-answer-stated
 
 pub no-such-body : (rs : List Rule) (f : File) (p : ℕ) → (p < 1) ⊎ (partitions f < p) → bodyBy rs f p ≡ []
@@ -172,11 +171,11 @@ no-such-body = Laws.Plain.no-such-body
 -- ---- Demand 3: loading, and the bill
 
 -- One claim about every whole list (Loading.antt, `Loaded`), of what the headers state, and of what the rows state.
-pub loading : (rs : List Rule) (f : File) → verdict rs f ≡ accepted → List·Mem (each 16 loadAddressWrong) rs → List·Mem (each 19 loadRangesClash) rs
+pub loading : (rs : List Rule) (f : File) → verdict rs f ≡ accepted → List·Mem (each 16 (ofHeader loadAddressBad)) rs → List·Mem (each 19 loadRangesClash) rs
     → (m : Memory) (feeds : List Feed) → Whole (byHeaders f) feeds → Loaded (byHeaders f) m feeds
 loading = Laws.Plain.loading
 
-pub loading-by-rows : (rs : List Rule) (f : File) (rows : List ℕ) → verdict rs f ≡ accepted → List·Mem (each 16 loadAddressWrong) rs
+pub loading-by-rows : (rs : List Rule) (f : File) (rows : List ℕ) → verdict rs f ≡ accepted → List·Mem (each 16 (ofHeader loadAddressBad)) rs
     → List·Mem (each 19 loadRangesClash) rs
     → (m : Memory) (feeds : List Feed) → Whole (byRows (rowsAfter rs f rows)) feeds → Loaded (byRows (rowsAfter rs f rows)) m feeds
 loading-by-rows = Laws.Plain.loading-by-rows
@@ -195,11 +194,11 @@ pub rows-state-the-same : (rs : List Rule) (f : File) (rows : List ℕ) → verd
 rows-state-the-same = Laws.Plain.rows-state-the-same
 
 -- The bill is the count of positions below the image's length that lie in at least one span, and at most that length.
-pub bill-counts : (rs : List Rule) (f : File) → verdict rs f ≡ accepted → List·Mem (each 15 spanOutside) rs → List·Mem (once 18 storedRangesClash) rs
+pub bill-counts : (rs : List Rule) (f : File) → verdict rs f ≡ accepted → List·Mem (each 15 (withHeader spanOutside)) rs → List·Mem (once 18 storedRangesClash) rs
     → (billBy rs f ≡ inSpans (byHeaders f) (length (f .bytes))) × (billBy rs f ≤ length (f .bytes))
 bill-counts = Laws.Plain.bill-counts
 
-pub bill-counts-by-rows : (rs : List Rule) (f : File) (rows : List ℕ) → verdict rs f ≡ accepted → List·Mem (each 15 spanOutside) rs
+pub bill-counts-by-rows : (rs : List Rule) (f : File) (rows : List ℕ) → verdict rs f ≡ accepted → List·Mem (each 15 (withHeader spanOutside)) rs
     → List·Mem (once 18 storedRangesClash) rs → billBy rs f ≡ inSpans (byRows (rowsAfter rs f rows)) (length (f .bytes))
 bill-counts-by-rows = Laws.Plain.bill-counts-by-rows
 
@@ -216,23 +215,23 @@ read-counts = Laws.Plain.read-counts
 
 -- Read's list, and the host's, are of the form that the next three speak of.
 pub list-split : (least have : ℕ)
-    → bufferRules least have ≡ (once 1 imageTooLong ∷ once 2 (bufferTooShort least have) ∷ headerRules) ++ (once 18 storedRangesClash ∷ each 19 loadRangesClash ∷ [])
+    → bufferRules least have ≡ (once 1 imageTooLong ∷ once 2 (bufferTooShort least have) ∷ readingRules) ++ (once 18 storedRangesClash ∷ each 19 loadRangesClash ∷ [])
 list-split = Laws.Plain.buffer-split
 
 -- With the rules before 18 kept, rules 3 to 17 among them, and only higher numbers after 19: refused with 18 exactly when some position is
 -- claimed twice, and then with p = 0.
-pub refused-18 : (f : File) (before after : List Rule) → Keeps before f → Keeps headerRules f → ((r : Rule) → List·Mem r after → 19 < r .number)
+pub refused-18 : (f : File) (before after : List Rule) → Keeps before f → Keeps readingRules f → ((r : Rule) → List·Mem r after → 19 < r .number)
     → (p : ℕ) → (verdict (before ++ (once 18 storedRangesClash ∷ each 19 loadRangesClash ∷ after)) f ≡ refused 18 p) ↔ (PositionTwice f × (p ≡ 0))
 refused-18 = Laws.ClashVerdict.refused-18
 
 -- Refused with 19 exactly when no position is claimed twice, but some address is; and then p is the smallest partition whose load range
 -- shares an address with an earlier partition's.
-pub refused-19 : (f : File) (before after : List Rule) → Keeps before f → Keeps headerRules f → ((r : Rule) → List·Mem r after → 19 < r .number)
+pub refused-19 : (f : File) (before after : List Rule) → Keeps before f → Keeps readingRules f → ((r : Rule) → List·Mem r after → 19 < r .number)
     → ((p : ℕ) × (verdict (before ++ (once 18 storedRangesClash ∷ each 19 loadRangesClash ∷ after)) f ≡ refused 19 p))
     ↔ ((PositionTwice f → ⊥) × AddressTwice f)
 refused-19 = Laws.ClashVerdict.refused-19-some
 
-pub refused-19-at : (f : File) (before after : List Rule) → Keeps before f → Keeps headerRules f → ((r : Rule) → List·Mem r after → 19 < r .number)
+pub refused-19-at : (f : File) (before after : List Rule) → Keeps before f → Keeps readingRules f → ((r : Rule) → List·Mem r after → 19 < r .number)
     → (p : ℕ) → (verdict (before ++ (once 18 storedRangesClash ∷ each 19 loadRangesClash ∷ after)) f ≡ refused 19 p)
     ↔ ((PositionTwice f → ⊥) × SmallestMeeting f p)
 refused-19-at = Laws.ClashVerdict.refused-19

@@ -6,7 +6,7 @@ use mathlib.Core.Bool.{Bool, cond, not, _||_}
 use mathlib.Core.List.{List, reverse}
 use lib.ListN.{length, drop}
 use lib.Dec.{ltb, eqb}
-use Rattle.pdi_spec.specs.Table.{File}
+use Rattle.pdi_spec.specs.File.{File}
 use Rattle.pdi_spec.specs.Words.{byteAt}
 use Rattle.pdi_spec.specs.Host.{leBytes}
 

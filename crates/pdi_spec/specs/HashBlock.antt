@@ -1,30 +1,16 @@
--- Document 01, "Hash block" (source 004) and rule 17: where a block stands, its entries, and the entry of an own index.
--- Index 0 is the meta header, whose block the table names; index p is partition p, whose block its header names. Assumes nothing.
-use Prim.Native.Nat.{ℕ, zero, suc, _+_, _*_, _/_}
+-- Document 01, "Hash block" (004) and rule 17: the entries of a hash block, and the one of its own index. Assumes nothing.
+use Prim.Native.Nat.{ℕ, _+_, _*_, _/_}
 use mathlib.Core.Bool.{Bool, _&&_}
 use mathlib.Core.List.{List}
 use mathlib.Core.Option.{Option·elim}
 use lib.Dec.{eqb}
 use Rattle.pdi_spec.specs.Lists.{numbers, countOf, firstOf}
-use Rattle.pdi_spec.specs.Table.{File}
-use Rattle.pdi_spec.specs.Partition.{headerAt}
+use Rattle.pdi_spec.specs.Headers.{Block}
 use Rattle.pdi_spec.specs.Words.{wordAt}
 
--- the byte offset of what names the block of index i: the table for 0, and else partition i's header
-unfoldable pub blockNamedAt : File → ℕ → ℕ
-blockNamedAt f zero = f .place
-blockNamedAt f (suc p) = headerAt f (suc p)
-
--- "hash block length 0x60 and offset 0x64", in the table and in a partition header: the length in bytes, the offset in words
-unfoldable pub blockLength : File → ℕ → ℕ
-blockLength f i = wordAt (f .bytes) (blockNamedAt f i + 0x60)
-
-unfoldable pub blockOffset : File → ℕ → ℕ
-blockOffset f i = wordAt (f .bytes) (blockNamedAt f i + 0x64)
-
 -- "length and offset both 0: no block"
-unfoldable pub noBlock : File → ℕ → Bool
-noBlock f i = eqb (blockLength f i) 0 && eqb (blockOffset f i) 0
+unfoldable pub noBlock : Block → Bool
+noBlock b = eqb (b .size) 0 && eqb (b .offset) 0
 
 -- "entries of a 4-byte index and a 48-byte digest"
 unfoldable pub entrySize : ℕ
@@ -34,26 +20,26 @@ entrySize = 52
 unfoldable pub sizeOfEntries : ℕ → ℕ
 sizeOfEntries n = (entrySize * n + 15) / 16 * 16
 
--- The n that a length stands for: the padding, under 16 bytes, holds no entry (Laws/HashBlock.antt, entries-unique).
+-- The n that a block's size stands for: the padding, under 16 bytes, holds no entry (Claims.antt, entries-unique).
 unfoldable pub entriesIn : ℕ → ℕ
-entriesIn length = length / entrySize
+entriesIn size = size / entrySize
 
--- the byte offset of entry k, counted from 0, of the block of index i
-unfoldable pub entryAt : File → ℕ → ℕ → ℕ
-entryAt f i k = 4 * blockOffset f i + entrySize * k
+-- the byte offset of entry k, counted from 0
+unfoldable pub entryAt : Block → ℕ → ℕ
+entryAt b k = 4 * b .offset + entrySize * k
 
--- entry k of the block of index i has the own index, i
-unfoldable pub isOwn : File → ℕ → ℕ → Bool
-isOwn f i k = eqb (wordAt (f .bytes) (entryAt f i k)) i
+-- entry k has the index i
+unfoldable pub hasIndex : List ℕ → Block → ℕ → ℕ → Bool
+hasIndex bytes b i k = eqb (wordAt bytes (entryAt b k)) i
 
--- the entries of the block of index i
-unfoldable pub entryNumbers : File → ℕ → List ℕ
-entryNumbers f i = numbers 0 (entriesIn (blockLength f i))
+-- the block's entries
+unfoldable pub entryNumbers : Block → List ℕ
+entryNumbers b = numbers 0 (entriesIn (b .size))
 
--- how many entries have the own index
-unfoldable pub ownEntries : File → ℕ → ℕ
-ownEntries f i = countOf (isOwn f i) (entryNumbers f i)
+-- how many entries have the index i
+unfoldable pub ownEntries : List ℕ → Block → ℕ → ℕ
+ownEntries bytes b i = countOf (hasIndex bytes b i) (entryNumbers b)
 
--- "byte offset of its hash entry (0 if none)": with no block there is no entry to look at, as its length is 0
-unfoldable pub hashEntry : File → ℕ → ℕ
-hashEntry f i = Option·elim (firstOf (isOwn f i) (entryNumbers f i)) 0 (entryAt f i)
+-- "byte offset of its hash entry (0 if none)": the first of index i. With no block there is no entry, as the size is 0.
+unfoldable pub hashEntryIn : List ℕ → Block → ℕ → ℕ
+hashEntryIn bytes b i = Option·elim (firstOf (hasIndex bytes b i) (entryNumbers b)) 0 (entryAt b)

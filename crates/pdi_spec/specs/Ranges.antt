@@ -5,10 +5,10 @@ use mathlib.Core.Bool.{Bool, cond, _&&_}
 use mathlib.Core.List.{List, [], _∷_, _++_, map, flatMap}
 use lib.Dec.{leb, ltb, eqb}
 use Rattle.pdi_spec.specs.Lists.{numbers}
-use Rattle.pdi_spec.specs.Table.{File, headerSize, optionalWords, imageHeaderOffset, images, imageHeaderWords, isFull, partitions, partitionNumbers}
-use Rattle.pdi_spec.specs.Boot.{bootSize}
-use Rattle.pdi_spec.specs.Partition.{headerAt, dataOffset, total, encrypted, unencrypted, loadAddress, attributes, hasLoadAddress}
-use Rattle.pdi_spec.specs.HashBlock.{noBlock, blockOffset, blockLength}
+use Rattle.pdi_spec.specs.Headers.{headerSize, bootSize, Block, Table, imageHeaderWordsOf, Header}
+use Rattle.pdi_spec.specs.Attributes.{hasLoadAddress}
+use Rattle.pdi_spec.specs.File.{File, table, isFull, partitions, partitionNumbers, header, blockOf}
+use Rattle.pdi_spec.specs.HashBlock.{noBlock}
 
 -- `size` numbers from `start` on: positions of the image, or addresses
 pub record Range : Type 0 where
@@ -40,31 +40,37 @@ unfoldable pub bootRange : Range
 bootRange = record { start = 0; size = bootSize }
 
 -- the table alone, which rule 3 asks for
-unfoldable pub tableRange : File → Range
-tableRange f = record { start = f .place; size = headerSize }
+unfoldable pub tableRange : ℕ → Range
+tableRange place = record { start = place; size = headerSize }
 
 -- "Optional data follow the table directly (our reading)."
-unfoldable pub tableWithOptional : File → Range
-tableWithOptional f = record { start = f .place; size = headerSize + 4 * optionalWords f }
+unfoldable pub tableWithOptional : Table → Range
+tableWithOptional t = record { start = t .place; size = headerSize + 4 * t .optionalWords }
 
 -- "Image headers lie one after another, images × size words (our reading; 003 speaks of a list)."
-unfoldable pub imageHeaders : File → Range
-imageHeaders f = record { start = 4 * imageHeaderOffset f; size = 4 * (images f * imageHeaderWords f) }
+unfoldable pub imageHeaders : Table → Range
+imageHeaders t = record { start = 4 * t .imageHeaderOffset; size = 4 * (t .images * imageHeaderWordsOf (t .headerSizes)) }
 
-unfoldable pub headerRange : File → ℕ → Range
-headerRange f p = record { start = headerAt f p; size = headerSize }
+unfoldable pub headerRange : Header → Range
+headerRange h = record { start = h .at; size = headerSize }
 
 -- "Span: T words from D."
-unfoldable pub span : File → ℕ → Range
-span f p = record { start = 4 * dataOffset f p; size = 4 * total f p }
+unfoldable pub spanOf : Header → Range
+spanOf h = record { start = 4 * h .dataOffset; size = 4 * h .total }
 
 -- "Body: its first E words."
-unfoldable pub bodyRange : File → ℕ → Range
-bodyRange f p = record { start = 4 * dataOffset f p; size = 4 * encrypted f p }
+unfoldable pub bodyOf : Header → Range
+bodyOf h = record { start = 4 * h .dataOffset; size = 4 * h .encrypted }
 
--- the block of index i, where it has one
-unfoldable pub blockRange : File → ℕ → Range
-blockRange f i = record { start = 4 * blockOffset f i; size = blockLength f i }
+unfoldable pub blockRange : Block → Range
+blockRange b = record { start = 4 * b .offset; size = b .size }
+
+-- of partition p
+unfoldable pub span : File → ℕ → Range
+span f p = spanOf (header f p)
+
+unfoldable pub body : File → ℕ → Range
+body f p = bodyOf (header f p)
 
 -- ---- the lists of rule 18
 
@@ -72,18 +78,21 @@ unfoldable pub spans : File → List Range
 spans f = map (span f) (partitionNumbers f)
 
 unfoldable pub bodies : File → List Range
-bodies f = map (bodyRange f) (partitionNumbers f)
+bodies f = map (body f) (partitionNumbers f)
 
 -- "the boot header (full only), table with optional data, image headers, each partition header"
 unfoldable pub headerRanges : File → List Range
 headerRanges f =
     cond (isFull f) (bootRange ∷ []) []
-    ++ (tableWithOptional f ∷ imageHeaders f ∷ map (headerRange f) (partitionNumbers f))
+    ++ (tableWithOptional (table f) ∷ imageHeaders (table f) ∷ map (λ (p : ℕ). headerRange (header f p)) (partitionNumbers f))
 
--- the table's block, then each partition's, where there is one; a block that two headers name stands here twice
+-- the range of a hash block, where there is one
+unfoldable pub blockRanges : Block → List Range
+blockRanges b = cond (noBlock b) [] (blockRange b ∷ [])
+
+-- the table's block, then each partition's; a block that two headers name stands here twice
 unfoldable pub hashBlocks : File → List Range
-hashBlocks f =
-    flatMap (λ (i : ℕ). cond (noBlock f i) [] (blockRange f i ∷ [])) (numbers 0 (suc (partitions f)))
+hashBlocks f = flatMap (λ (i : ℕ). blockRanges (blockOf f i)) (numbers 0 (suc (partitions f)))
 
 -- ---- load ranges
 
@@ -99,11 +108,18 @@ meet a b = overlap (a .addresses) (b .addresses)
 unfoldable pub loadsTo : LoadRange → ℕ → Bool
 loadsTo r address = within (r .addresses) address
 
+unfoldable pub loadAddressOf : Header → ℕ
+loadAddressOf h = h .loadLow + 2 ^ 32 * h .loadHigh
+
+unfoldable pub loadRangeOf : Header → LoadRange
+loadRangeOf h = record { addresses = record { start = loadAddressOf h; size = 4 * h .unencrypted } }
+
+-- of partition p: whether it has a load address, and its load range
 unfoldable pub loads : File → ℕ → Bool
-loads f p = hasLoadAddress (attributes f p)
+loads f p = hasLoadAddress (header f p .attributes)
 
 unfoldable pub loadRange : File → ℕ → LoadRange
-loadRange f p = record { addresses = record { start = loadAddress f p; size = 4 * unencrypted f p } }
+loadRange f p = loadRangeOf (header f p)
 
 -- "A memory has one byte at each address from 0 to 2^64 - 1."
 unfoldable pub addressSpace : ℕ

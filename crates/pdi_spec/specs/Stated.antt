@@ -6,8 +6,8 @@ use mathlib.Core.Bool.{Bool}
 use mathlib.Core.List.{List}
 use lib.ListN.{getD}
 use Rattle.pdi_spec.specs.Lists.{numbers, anyOf, countOf, those}
-use Rattle.pdi_spec.specs.Table.{File, partitions}
-use Rattle.pdi_spec.specs.Partition.{hasLoadAddress}
+use Rattle.pdi_spec.specs.File.{File, partitions}
+use Rattle.pdi_spec.specs.Attributes.{hasLoadAddress}
 use Rattle.pdi_spec.specs.Ranges.{Range, within, LoadRange}
 use Rattle.pdi_spec.specs.Ranges
 

@@ -4,7 +4,7 @@ use mathlib.Core.Bool.{So}
 use mathlib.Core.List.{List, [], _∷_, _++_, List·Mem, Sublist}
 use mathlib.Core.Logic.{_≢_}
 use lib.ListN.{length}
-use Rattle.pdi_spec.specs.Table.{File, partitions}
+use Rattle.pdi_spec.specs.File.{File, partitions}
 use Rattle.pdi_spec.specs.Ranges.{Range, within, headerRanges, spans, bodies, hashBlocks, loads, loadRange, loadsTo, addressSpace}
 
 -- two entries of the list, the earlier one first

@@ -7,7 +7,7 @@ use mathlib.Core.List.{List, [], _∷_, _++_, List·Mem}
 use mathlib.Core.Option.{Option·elim}
 use mathlib.Core.Path.{_≡_}
 use Rattle.pdi_spec.specs.Lists.{numbers, firstOf}
-use Rattle.pdi_spec.specs.Table.{File, partitions, partitionNumbers}
+use Rattle.pdi_spec.specs.File.{File, partitions, partitionNumbers}
 
 -- A row of the table: its number, the p's that it is tried at, in their order, and whether it is broken at one of them.
 pub record Rule : Type 0 where

@@ -10,10 +10,10 @@ use lib.Dec.{eqb}
 use lib.ListN.{length}
 use borrow.Author.Tests.{eqb-true, eq-eqb, ltb-false}
 use Rattle.pdi_spec.specs.Lists.{numbers, anyTrue, anyOf, anyPair}
-use Rattle.pdi_spec.specs.Table.{File}
+use Rattle.pdi_spec.specs.File.{File, header}
 use Rattle.pdi_spec.specs.Ranges.{Range, endOf, within, overlap, sameRange, past, spans, bodies, headerRanges, hashBlocks, meet, loads, loadRange, loadsTo, addressSpace}
-use Rattle.pdi_spec.specs.Rules.{storedRangesClash, loadRangesClash, loadAddressWrong}
-use Rattle.pdi_spec.specs.RuleList.{headerRules}
+use Rattle.pdi_spec.specs.Rules.{storedRangesClash, loadRangesClash, loadAddressBad}
+use Rattle.pdi_spec.specs.RuleList.{readingRules}
 use Rattle.pdi_spec.specs.Twice.{LiesInTwo, two-stored, block-and-stored, two-blocks, PositionTwice, MeetsEarlier}
 use Rattle.pdi_spec.specs.Verdict.{Keeps}
 use Rattle.pdi_spec.specs.Laws.Tests.{or-inl, or-inr, and-left, and-right, and-both, not-is-true, is-not-true, never-both, any-entry, entry-any, pair-entries, entries-pair, overlap-shared, shared-overlap, mem-numbers, numbers-mem, within-bounds}
@@ -71,7 +71,7 @@ module _ (f : File) where
       (and-both (overlap g h) (not (sameRange g h)) (shared-overlap g h x p q)
       (ap not (is-not-true (sameRange g h) (λ e. d (same-equal g h e))))))))
 
-  module _ (keeps : Keeps headerRules f) where
+  module _ (keeps : Keeps readingRules f) where
     -- a number of a range that lies inside the image is a position
     position : (r : Range) (x : ℕ) → Inside f r → within r x ≡ true → x < length (f .bytes)
     unfolding Inside endOf
@@ -128,7 +128,7 @@ module _ (f : File) where
       (shared-overlap (loadRange f p .addresses) (loadRange f e .addresses) (s .address) (s .in-p) (s .in-e))))
 
   -- the rule is broken at p, whose load range ends in the address space: it meets an earlier one's
-  pub clash-meets : (p : ℕ) → loadAddressWrong f p ≡ false → loadRangesClash f p ≡ true → MeetsEarlier f p
+  pub clash-meets : (p : ℕ) → loadAddressBad (header f p) ≡ false → loadRangesClash f p ≡ true → MeetsEarlier f p
   unfolding loadRangesClash MeetsEarlier loadsTo meet past endOf
   clash-meets p k h =
       let here = and-left (loads f p) (anyOf (meetsAt p) (numbers 1 (p - 1))) h in

@@ -9,9 +9,9 @@ use native.Mathlib.Bridge.{le-prop}
 use mathlib.Core.Option.{Option, none, some}
 use mathlib.Core.Path.{_≡_, refl, sym, _∙_, ap}
 use Rattle.pdi_spec.specs.Lists.{numbers, firstOf}
-use Rattle.pdi_spec.specs.Table.{File, partitions, partitionNumbers}
-use Rattle.pdi_spec.specs.Rules.{storedRangesClash, loadRangesClash, loadAddressWrong}
-use Rattle.pdi_spec.specs.RuleList.{headerRules}
+use Rattle.pdi_spec.specs.File.{File, partitions, partitionNumbers, header}
+use Rattle.pdi_spec.specs.Rules.{storedRangesClash, loadRangesClash, loadAddressBad}
+use Rattle.pdi_spec.specs.RuleList.{readingRules}
 use Rattle.pdi_spec.specs.Twice.{PositionTwice, MeetsEarlier, AddressTwice, SmallestMeeting}
 use Rattle.pdi_spec.specs.Verdict.{Rule, once, each, refused, verdict, Kept, Keeps}
 use Rattle.pdi_spec.specs.Laws.Tests.{either, never-both, is-not-true, mem-numbers, numbers-mem}
@@ -19,7 +19,7 @@ use Rattle.pdi_spec.specs.Laws.Verdict.{First, first-mem, first-none, fi
 use Rattle.pdi_spec.specs.Laws.Kept.{rule-16}
 use Rattle.pdi_spec.specs.Laws.Clash.{twice-clash, clash-twice, meets-clash, clash-meets}
 
-module _ (f : File) (before after : List Rule) (kept : Keeps before f) (headers : Keeps headerRules f)
+module _ (f : File) (before after : List Rule) (kept : Keeps before f) (headers : Keeps readingRules f)
     (high : (r : Rule) → List·Mem r after → 19 < r .number) where
   abbrev fromLoads : List Rule
   fromLoads = each 19 loadRangesClash ∷ after
@@ -85,7 +85,7 @@ module _ (f : File) (before after : List Rule) (kept : Keeps before f) (headers 
           absurd (no-such-number after f 19 p high (sym (verdict-kept (each 19 loadRangesClash) after f (first-none _ _ q)) ∙ e))
       go (some x) q = first-some _ _ p (q ∙ ap some (refused-p (sym (loads-broken x q) ∙ e)))
 
-  rule-16-at : (p : ℕ) → List·Mem p (numbers 1 (partitions f)) → loadAddressWrong f p ≡ false
+  rule-16-at : (p : ℕ) → List·Mem p (numbers 1 (partitions f)) → loadAddressBad (header f p) ≡ false
   unfolding partitionNumbers
   rule-16-at p m = rule-16 f headers p m
 

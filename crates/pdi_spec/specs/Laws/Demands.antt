@@ -8,10 +8,10 @@ use mathlib.Core.Logic.{∥∥₁-elim, ∥∥₁-prop, Or·elim}
 use mathlib.Core.Path.{_≡_, refl, sym, _∙_, ap, ap₂, subst, fun-ext}
 use lib.ListN.{length}
 use Rattle.pdi_spec.specs.Lists.{numbers, sumOf, anyOf, anyPair, those, countOf}
-use Rattle.pdi_spec.specs.Table.{File, partitions, partitionNumbers}
-use Rattle.pdi_spec.specs.Partition.{total}
-use Rattle.pdi_spec.specs.Ranges.{Range, LoadRange, within, overlap, past, span, spans, headerRanges, meet, loads, loadRange, addressSpace}
-use Rattle.pdi_spec.specs.Rules.{pastImage, spanOutside, loadAddressWrong, storedRangesClash, loadRangesClash}
+use Rattle.pdi_spec.specs.File.{File, partitions, partitionNumbers, header}
+use Rattle.pdi_spec.specs.RuleList.{ofHeader, withHeader}
+use Rattle.pdi_spec.specs.Ranges.{Range, LoadRange, within, overlap, past, span, spanOf, spans, headerRanges, meet, loads, loadRange, addressSpace}
+use Rattle.pdi_spec.specs.Rules.{spanOutside, loadAddressBad, storedRangesClash, loadRangesClash}
 use Rattle.pdi_spec.specs.Verdict.{Rule, once, each, accepted, verdict, Kept}
 use Rattle.pdi_spec.specs.Answers.{billed, rowsAfter}
 use Rattle.pdi_spec.specs.Stated.{Stated, byHeaders, byRows, partitionsOf, loadable, inSpans}
@@ -90,24 +90,24 @@ module _ (f : File) where
           rw (te .1) at at
 
   -- rule 16 kept: every load range ends in the address space
-  pub low : Kept (each 16 loadAddressWrong) f → (p : ℕ) → List·Mem p (loadable (byHeaders f)) → past addressSpace (loadRange f p .addresses) ≡ false
+  pub low : Kept (each 16 (ofHeader loadAddressBad)) f → (p : ℕ) → List·Mem p (loadable (byHeaders f)) → past addressSpace (loadRange f p .addresses) ≡ false
   low k p m =
       ∥∥₁-elim (loadable-headers p m) (Bool-set (past addressSpace (loadRange f p .addresses)) false)
-      (λ t. load-in-space f p (t .1) (kept-each 16 loadAddressWrong f k p (t .0)))
+      (λ t. load-in-space f p (t .1) (kept-each 16 (ofHeader loadAddressBad) f k p (t .0)))
 
-  pub loading-headers : Kept (each 16 loadAddressWrong) f → Kept (each 19 loadRangesClash) f
+  pub loading-headers : Kept (each 16 (ofHeader loadAddressBad)) f → Kept (each 19 loadRangesClash) f
       → (m : Memory) (feeds : List Feed) → Whole (byHeaders f) feeds → Loaded (byHeaders f) m feeds
   unfolding byHeaders
   loading-headers k l m feeds w = loads-whole (byHeaders f) (clear l) (low k) m feeds w
 
   -- rules 15 and 18 kept: the billed bytes are as many as the positions in a span
-  pub bill-headers : Kept (each 15 spanOutside) f → Kept (once 18 storedRangesClash) f → billed f ≡ inSpans (byHeaders f) (length (f .bytes))
-  unfolding byHeaders partitionsOf partitionNumbers billed span spanOutside pastImage storedRangesClash spans
+  pub bill-headers : Kept (each 15 (withHeader spanOutside)) f → Kept (once 18 storedRangesClash) f → billed f ≡ inSpans (byHeaders f) (length (f .bytes))
+  unfolding byHeaders partitionsOf partitionNumbers billed span spanOf spanOutside storedRangesClash spans
   bill-headers k l =
       let apart = pair-right overlap (headerRanges f) (spans f) (false-at _ (kept-once 18 storedRangesClash f l) 0) in
-      sym (spans-counted (byHeaders f) (length (f .bytes)) apart (λ p m. inside p (kept-each 15 spanOutside f k p m)) ∙ sum-times (total f) (numbers 1 (partitions f)))
+      sym (spans-counted (byHeaders f) (length (f .bytes)) apart (λ p m. inside p (kept-each 15 (withHeader spanOutside) f k p m)) ∙ sum-times (λ (p : ℕ). header f p .total) (numbers 1 (partitions f)))
     where
-      inside : (p : ℕ) → spanOutside f p ≡ false → past (length (f .bytes)) (span f p) ≡ false
+      inside : (p : ℕ) → spanOutside (f .bytes) (header f p) ≡ false → past (length (f .bytes)) (span f p) ≡ false
       inside p e = or-left (past (length (f .bytes)) (span f p)) _ e
 
 -- ---- by the rows that an acceptance writes
@@ -135,7 +135,7 @@ module _ (rs : List Rule) (f : File) (rows : List ℕ) (e : verdict rs f ≡ acc
       let b = at-p p (Sublistᴰ·subset (those-sublist (loads f) (numbers 1 (partitions f))) p (to-headers p m)) in
       range-after rs f rows e p (b .0) (b .1)
 
-  pub loading-rows : Kept (each 16 loadAddressWrong) f → Kept (each 19 loadRangesClash) f
+  pub loading-rows : Kept (each 16 (ofHeader loadAddressBad)) f → Kept (each 19 loadRangesClash) f
       → (m : Memory) (feeds : List Feed) → Whole stated feeds → Loaded stated m feeds
   loading-rows k l m feeds w =
       loads-whole stated

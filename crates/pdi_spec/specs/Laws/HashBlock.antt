@@ -11,10 +11,11 @@ use mathlib.Core.Path.{_≡_, refl}
 use lib.Dec.{eqb}
 use borrow.Author.Tests.{eqb-true, eq-eqb}
 use Rattle.pdi_spec.specs.Lists.{numbers, anyOf, countOf, firstOf}
-use Rattle.pdi_spec.specs.Table.{File}
+use Rattle.pdi_spec.specs.Headers.{Block}
+use Rattle.pdi_spec.specs.File.{File, blockOf}
 use Rattle.pdi_spec.specs.Words.{wordAt}
-use Rattle.pdi_spec.specs.HashBlock.{blockLength, noBlock, entrySize, sizeOfEntries, entriesIn}
-use Rattle.pdi_spec.specs.HashBlock.{entryAt, isOwn, entryNumbers, ownEntries, hashEntry}
+use Rattle.pdi_spec.specs.HashBlock.{noBlock, entrySize, sizeOfEntries, entriesIn}
+use Rattle.pdi_spec.specs.HashBlock.{entryAt, hasIndex, entryNumbers, ownEntries, hashEntryIn}
 use Rattle.pdi_spec.specs.Rules.{hashBlockBad, hashBlockWrong}
 use Rattle.pdi_spec.specs.Laws.Tests.{either, or-both, and-left, not-is-false, never-both, false-at}
 use Rattle.pdi_spec.specs.Laws.Tests.{mem-numbers, numbers-mem, none-entry}
@@ -75,21 +76,19 @@ count-one test (x ∷ xs) e =
 
 -- ---- the own entry
 
--- where rule 17 holds at i and there is a block, one entry has the own index
-one-own : (f : File) (i : ℕ) → noBlock f i ≡ false → hashBlockWrong f i ≡ false → ownEntries f i ≡ 1
-unfolding hashBlockWrong hashBlockBad
-one-own f i b w =
-    let bad : hashBlockBad f i ≡ false = rw b at w in
-    eqb-true (ownEntries f i) 1 (not-is-false (eqb (ownEntries f i) 1) (false-at _ bad 5))
+-- a block that rule 17 has passed has one entry with the own index
+one-own : (bytes : List ℕ) (i : ℕ) (b : Block) → hashBlockBad bytes i b ≡ false → ownEntries bytes b i ≡ 1
+unfolding hashBlockBad
+one-own bytes i b e = eqb-true (ownEntries bytes b i) 1 (not-is-false (eqb (ownEntries bytes b i) 1) (false-at _ e 5))
 
--- Where rule 17 holds at i and there is a block, exactly one of its entries has the own index, and `hashEntry` is its byte offset.
-pub own-entry : (f : File) (i : ℕ) → noBlock f i ≡ false → hashBlockWrong f i ≡ false
-    → (k : ℕ) × (k < entriesIn (blockLength f i)) × (hashEntry f i ≡ entryAt f i k) × (wordAt (f .bytes) (entryAt f i k) ≡ i)
-    × ((j : ℕ) → j < entriesIn (blockLength f i) → wordAt (f .bytes) (entryAt f i j) ≡ i → j ≡ k)
-unfolding ownEntries entryNumbers hashEntry isOwn Option·elim
-own-entry f i b w =
-    let n = entriesIn (blockLength f i) in
-    let r = count-one (isOwn f i) (numbers 0 n) (one-own f i b w) in (
+-- Exactly one of its entries has the own index, and `hashEntryIn` is its byte offset.
+pub own-entry : (bytes : List ℕ) (i : ℕ) (b : Block) → hashBlockBad bytes i b ≡ false
+    → (k : ℕ) × (k < entriesIn (b .size)) × (hashEntryIn bytes b i ≡ entryAt b k) × (wordAt bytes (entryAt b k) ≡ i)
+    × ((j : ℕ) → j < entriesIn (b .size) → wordAt bytes (entryAt b j) ≡ i → j ≡ k)
+unfolding ownEntries entryNumbers hashEntryIn hasIndex Option·elim
+own-entry bytes i b e =
+    let n = entriesIn (b .size) in
+    let r = count-one (hasIndex bytes b i) (numbers 0 n) (one-own bytes i b e) in (
       r .0,
       omega (arith, mem-numbers 0 n (r .2)),
       rw (r .1) refl,
@@ -99,8 +98,13 @@ own-entry f i b w =
     )
 
 -- Without a block there is no entry.
-pub no-entry : (f : File) (i : ℕ) → noBlock f i ≡ true → hashEntry f i ≡ 0
-unfolding noBlock hashEntry entryNumbers entriesIn entrySize numbers firstOf Option·elim
-no-entry f i e =
-    let empty : blockLength f i ≡ 0 = eqb-true _ 0 (and-left _ _ e) in
+pub no-entry : (bytes : List ℕ) (i : ℕ) (b : Block) → noBlock b ≡ true → hashEntryIn bytes b i ≡ 0
+unfolding noBlock hashEntryIn entryNumbers entriesIn entrySize numbers firstOf Option·elim
+no-entry bytes i b e =
+    let empty : b .size ≡ 0 = eqb-true _ 0 (and-left _ _ e) in
     rw empty refl
+
+-- Rule 17 kept at i, where there is a block: the block is not bad.
+pub not-bad : (f : File) (i : ℕ) → noBlock (blockOf f i) ≡ false → hashBlockWrong f i ≡ false → hashBlockBad (f .bytes) i (blockOf f i) ≡ false
+unfolding hashBlockWrong
+not-bad f i b w = rw b at w

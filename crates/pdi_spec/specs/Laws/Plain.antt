@@ -12,14 +12,13 @@ use lib.ListN.{length, take, drop, length-append}
 use borrow.Author.Tests.{lt-ltb, le-ltb, ltb-false}
 use Rattle.pdi_spec.specs.Lists.{numbers}
 use Rattle.pdi_spec.specs.Words.{wordAt}
-use Rattle.pdi_spec.specs.Table.{File, kind, images, partitions}
-use Rattle.pdi_spec.specs.Partition.{dataOffset, total, encrypted, unencrypted, keyTotal, keyActual, signatureTotal, signatureActual, loadAddress, executionAddress, key, attributes}
-use Rattle.pdi_spec.specs.HashBlock.{noBlock, blockLength, blockOffset, entrySize, entryAt, entriesIn, hashEntry}
-use Rattle.pdi_spec.specs.Ranges.{endOf, past, span, loadRange, loadsTo, loads, addressSpace}
+use Rattle.pdi_spec.specs.File.{File, table, partitions, header, blockOf}
+use Rattle.pdi_spec.specs.HashBlock.{noBlock, entrySize, entryAt, entriesIn}
+use Rattle.pdi_spec.specs.Ranges.{endOf, past, span, spanOf, loadAddressOf, loadRange, loadRangeOf, loadsTo, loads, addressSpace}
 use Rattle.pdi_spec.specs.Verdict.{Rule, Outcome, once, each, eachAndTable, accepted, refused, verdict, Kept, Keeps}
-use Rattle.pdi_spec.specs.Rules.{notFrom, imageTooLong, bufferTooShort, tableFieldsWrong, lengthsWrong, spanOutside, loadAddressWrong, hashBlockWrong, storedRangesClash, loadRangesClash}
-use Rattle.pdi_spec.specs.RuleList.{tableRules, partitionRules, headerRules, clashRules, rules, bufferRules, readRules, hostRules}
-use Rattle.pdi_spec.specs.Answers.{answer, ifAccepted, billed, head, headAndRows, rowNumbers, rowOf, written, rowsAfter, billBy, bodyBy, cut, asked, readAnswer, readRows, billAnswer, bodyAnswer}
+use Rattle.pdi_spec.specs.Rules.{notFrom, imageTooLong, bufferTooShort, tableFieldsBad, lengthsBad, spanOutside, loadAddressBad, hashBlockWrong, storedRangesClash, loadRangesClash}
+use Rattle.pdi_spec.specs.RuleList.{ofTable, ofHeader, withHeader, tableRules, chainRule, headerRules, partitionRules, readingRules, clashRules, rules, bufferRules, readRules, hostRules}
+use Rattle.pdi_spec.specs.Answers.{hashEntry, answer, ifAccepted, billed, head, headAndRows, rowNumbers, rowOf, written, rowsAfter, billBy, bodyBy, cut, asked, readAnswer, readRows, billAnswer, bodyAnswer}
 use Rattle.pdi_spec.specs.Host.{leBytes, writtenBytes, hostAnswer, hostRows}
 use Rattle.pdi_spec.specs.Stated.{byHeaders, byRows, inSpans}
 use Rattle.pdi_spec.specs.Loading.{Memory, Feed, Whole, Loaded, target, addressesWritten}
@@ -28,7 +27,7 @@ use Rattle.pdi_spec.specs.Laws.Lists.{Every, every-mem, every-append, me
 use Rattle.pdi_spec.specs.Laws.Kept.{kept-once, kept-each, kept-with-table, partition-mem, mem-at, Inside, span-inside, load-in-space}
 use Rattle.pdi_spec.specs.Laws.Verdict.{accepted-keeps}
 use Rattle.pdi_spec.specs.Laws.Rows.{written-length, after-accepted, after-refused, head-after, row-after, length-after, count-after, span-after, loads-after, range-after}
-use Rattle.pdi_spec.specs.Laws.HashBlock.{own-entry, no-entry}
+use Rattle.pdi_spec.specs.Laws.HashBlock.{own-entry, no-entry, not-bad}
 use Rattle.pdi_spec.specs.Laws.Questions.{WellTried, well-prop, well-once, well-table, well-partitions, well-clash, few-partitions, p-at-most-32, buffer-list, answer-accepted, body-cut, body-accepted, body-none, bill-accepted}
 use Rattle.pdi_spec.specs.Laws.Demands.{loading-headers, loading-rows, bill-headers, spans-rows}
 use Rattle.pdi_spec.specs.Laws.Bill.{in-spans-at-most}
@@ -37,26 +36,26 @@ use Rattle.pdi_spec.specs.Laws.Bill.{in-spans-at-most}
 
 -- a list with a buffer is its rules up to 17, and then 18 and 19
 pub buffer-split : (least have : ℕ)
-    → bufferRules least have ≡ (once 1 imageTooLong ∷ once 2 (bufferTooShort least have) ∷ headerRules) ++ (once 18 storedRangesClash ∷ each 19 loadRangesClash ∷ [])
+    → bufferRules least have ≡ (once 1 imageTooLong ∷ once 2 (bufferTooShort least have) ∷ readingRules) ++ (once 18 storedRangesClash ∷ each 19 loadRangesClash ∷ [])
 unfolding bufferRules clashRules
 buffer-split least have = refl
 
 pub read-numbers : (rows : ℕ) → map (λ (r : Rule). r .number) (readRules rows) ≡ numbers 1 19
-unfolding readRules bufferRules headerRules tableRules partitionRules clashRules once each eachAndTable numbers
+unfolding readRules bufferRules readingRules tableRules partitionRules chainRule headerRules clashRules once each eachAndTable numbers
 read-numbers rows = refl
 
 pub host-numbers : (rows : ℕ) → map (λ (r : Rule). r .number) (hostRules rows) ≡ numbers 1 19
-unfolding hostRules bufferRules headerRules tableRules partitionRules clashRules once each eachAndTable numbers
+unfolding hostRules bufferRules readingRules tableRules partitionRules chainRule headerRules clashRules once each eachAndTable numbers
 host-numbers rows = refl
 
 pub bill-numbers : map (λ (r : Rule). r .number) rules ≡ 1 ∷ numbers 3 17
-unfolding rules headerRules tableRules partitionRules clashRules once each eachAndTable numbers
+unfolding rules readingRules tableRules partitionRules chainRule headerRules clashRules once each eachAndTable numbers
 bill-numbers = refl
 
 -- ---- every rule of a list with a buffer is well tried
 
 well-buffer : (least have : ℕ) (f : File) → Every (WellTried f) (bufferRules least have)
-unfolding bufferRules headerRules
+unfolding bufferRules readingRules
 well-buffer least have f = (
   well-once f _ _ (lit< tt),
   (
@@ -77,7 +76,7 @@ unfolding once
 tried-0 f k c = refl
 
 pub buffer-p : (least have : ℕ) (f : File) (k p : ℕ) → verdict (bufferRules least have) f ≡ refused k p → p ≤ 32
-unfolding bufferRules headerRules tableRules
+unfolding bufferRules readingRules tableRules
 buffer-p least have f k p e =
     p-at-most-32 (once 1 imageTooLong ∷ once 2 (bufferTooShort least have) ∷ []) (partitionRules ++ clashRules) f
     (every-mem (λ (r : Rule). r .tried f ≡ 0 ∷ []) (λ r. List·isSet ℕ-set (r .tried f) (0 ∷ [])) _ (tried-0 f 1 imageTooLong, (tried-0 f 2 (bufferTooShort least have), tt)))
@@ -108,7 +107,7 @@ pub host-same : (image : List ℕ) (place : ℕ) (rows bytes : List ℕ) → 260
     → hostAnswer image place bytes ≡ readAnswer image place rows
 unfolding hostAnswer readAnswer hostRules readRules bufferRules bufferTooShort
 host-same image place rows bytes h k =
-    ap (λ (b : Bool). answer (verdict (once 1 imageTooLong ∷ once 2 (λ g. b) ∷ headerRules ++ clashRules) (asked image place)))
+    ap (λ (b : Bool). answer (verdict (once 1 imageTooLong ∷ once 2 (λ g. b) ∷ readingRules ++ clashRules) (asked image place)))
     {x = ltb (length bytes) 2080} {y = ltb (length rows) 260}
     (le-ltb (length bytes) 2080 k ∙ sym (le-ltb (length rows) 260 h))
 
@@ -145,19 +144,19 @@ host-verdict image place rows e = answer-accepted (hostRules (length rows)) (ask
 -- ---- rows
 
 pub head-stated : (rs : List Rule) (f : File) (rows : List ℕ) → verdict rs f ≡ accepted
-    → take 4 (rowsAfter rs f rows) ≡ kind f ∷ images f ∷ partitions f ∷ billed f ∷ []
+    → take 4 (rowsAfter rs f rows) ≡ table f .kind ∷ table f .images ∷ partitions f ∷ billed f ∷ []
 unfolding head
 head-stated = head-after
 
 pub row-stated : (rs : List Rule) (f : File) (rows : List ℕ) → verdict rs f ≡ accepted → (p : ℕ) → 1 ≤ p → p ≤ partitions f
     → take 8 (drop (4 + 8 * (p - 1)) (rowsAfter rs f rows))
-    ≡ 4 * dataOffset f p ∷ 4 * total f p ∷ 4 * unencrypted f p ∷ loadAddress f p ∷ executionAddress f p ∷ key f p ∷ hashEntry f p ∷ attributes f p ∷ []
-unfolding rowNumbers rowOf span loadRange
+    ≡ 4 * header f p .dataOffset ∷ 4 * header f p .total ∷ 4 * header f p .unencrypted ∷ loadAddressOf (header f p) ∷ header f p .execution ∷ header f p .key ∷ hashEntry f p ∷ header f p .attributes ∷ []
+unfolding rowNumbers rowOf span spanOf loadRange loadRangeOf
 row-stated = row-after
 
 -- 260 numbers have room for the rows of 32 partitions
 pub read-length : (image : List ℕ) (place : ℕ) (rows : List ℕ) → length (readRows image place rows) ≡ length rows
-unfolding readRows readRules bufferRules headerRules tableRules partitionRules clashRules Keeps
+unfolding readRows readRules bufferRules readingRules tableRules partitionRules chainRule headerRules clashRules Keeps
 read-length image place rows = go (verdict (readRules (length rows)) (asked image place)) refl
   where
     go : (o : Outcome) → verdict (readRules (length rows)) (asked image place) ≡ o
@@ -165,7 +164,7 @@ read-length image place rows = go (verdict (readRules (length rows)) (asked imag
     go (refused k p) e = ap length (after-refused (readRules (length rows)) (asked image place) rows k p e)
     go accepted e =
         let room = buffer-list 260 (length rows) (asked image place) .0 e .0 in
-        let few = few-partitions (asked image place) (accepted-keeps (readRules (length rows)) (asked image place) e (once 6 tableFieldsWrong) (mem-at (readRules (length rows)) 5 (once 0 imageTooLong) (lit< tt))) in
+        let few = few-partitions (asked image place) (accepted-keeps (readRules (length rows)) (asked image place) e (once 6 (ofTable tableFieldsBad)) (mem-at (readRules (length rows)) 5 (once 0 imageTooLong) (lit< tt))) in
         length-after (readRules (length rows)) (asked image place) rows e (omega (arith, room, few))
 
 pub fourth-is-bill : (image : List ℕ) (place : ℕ) (rows : List ℕ) → readAnswer image place rows ≡ 0
@@ -198,25 +197,25 @@ host-rows image place rows e =
     rw (host-verdict image place rows e) (ap (λ (n : ℕ). flatMap (leBytes 8) (headAndRows (asked image place)) ++ drop n rows) size)
 
 pub hash-entry-stated : (f : File) → Kept (eachAndTable 17 hashBlockWrong) f → (p : ℕ) → 1 ≤ p → p ≤ partitions f
-    → ((noBlock f p ≡ true) × (hashEntry f p ≡ 0))
-    ⊎ ((k : ℕ) × (k < entriesIn (blockLength f p)) × (hashEntry f p ≡ 4 * blockOffset f p + 52 * k) × (wordAt (f .bytes) (hashEntry f p) ≡ p)
-    × ((j : ℕ) → j < entriesIn (blockLength f p) → wordAt (f .bytes) (4 * blockOffset f p + 52 * j) ≡ p → j ≡ k))
-unfolding entryAt entrySize
+    → ((noBlock (blockOf f p) ≡ true) × (hashEntry f p ≡ 0))
+    ⊎ ((k : ℕ) × (k < entriesIn (blockOf f p .size)) × (hashEntry f p ≡ 4 * blockOf f p .offset + 52 * k) × (wordAt (f .bytes) (hashEntry f p) ≡ p)
+    × ((j : ℕ) → j < entriesIn (blockOf f p .size) → wordAt (f .bytes) (4 * blockOf f p .offset + 52 * j) ≡ p → j ≡ k))
+unfolding hashEntry entryAt entrySize
 hash-entry-stated f k p l h =
-    ⊎-elim (λ e. inl (e, no-entry f p e))
+    ⊎-elim (λ e. inl (e, no-entry (f .bytes) p (blockOf f p) e))
     (λ e.
     let kept = kept-with-table 17 hashBlockWrong f k p (numbers-mem 0 (suc (partitions f)) (omega arith) (omega arith)) in
-    let t = own-entry f p e kept in
+    let t = own-entry (f .bytes) p (blockOf f p) (not-bad f p e kept) in
     inr (t .0, t .1, t .2, ap (wordAt (f .bytes)) (t .2) ∙ t .3, t .4))
-    (either (noBlock f p))
+    (either (noBlock (blockOf f p)))
 
 -- ---- some rules in plain numbers
 
-pub counts-stated : (f : File) → Kept (once 6 tableFieldsWrong) f → (1 ≤ images f) × (images f ≤ 32) × (1 ≤ partitions f) × (partitions f ≤ 32)
-unfolding tableFieldsWrong notFrom
+pub counts-stated : (f : File) → Kept (once 6 (ofTable tableFieldsBad)) f → (1 ≤ table f .images) × (table f .images ≤ 32) × (1 ≤ partitions f) × (partitions f ≤ 32)
+unfolding tableFieldsBad notFrom partitions
 counts-stated f k =
-    let e = kept-once 6 tableFieldsWrong f k in
-    (from-low (images f) (false-at _ e 0), to-high (images f) (false-at _ e 0), from-low (partitions f) (false-at _ e 1), to-high (partitions f) (false-at _ e 1))
+    let e = kept-once 6 (ofTable tableFieldsBad) f k in
+    (from-low (table f .images) (false-at _ e 0), to-high (table f .images) (false-at _ e 0), from-low (partitions f) (false-at _ e 1), to-high (partitions f) (false-at _ e 1))
   where
     from-low : (n : ℕ) → ltb n 1 || ltb 32 n ≡ false → 1 ≤ n
     from-low n e = ltb-false n 1 (or-left (ltb n 1) (ltb 32 n) e)
@@ -225,43 +224,43 @@ counts-stated f k =
     to-high n e = ltb-false 32 n (or-right (ltb n 1) (ltb 32 n) e)
 
 module _ (f : File) (p : ℕ) (low : 1 ≤ p) (high : p ≤ partitions f) where
-  pub lengths-stated : Kept (each 14 lengthsWrong) f
-      → (1 ≤ unencrypted f p) × (unencrypted f p ≤ encrypted f p) × (encrypted f p ≤ total f p) × (keyActual f p ≤ keyTotal f p)
-      × (signatureActual f p ≤ signatureTotal f p)
-  unfolding lengthsWrong
+  pub lengths-stated : Kept (each 14 (ofHeader lengthsBad)) f
+      → (1 ≤ header f p .unencrypted) × (header f p .unencrypted ≤ header f p .encrypted) × (header f p .encrypted ≤ header f p .total) × (header f p .keyActual ≤ header f p .keyTotal)
+      × (header f p .signatureActual ≤ header f p .signatureTotal)
+  unfolding lengthsBad
   lengths-stated k =
-      let e = kept-each 14 lengthsWrong f k p (partition-mem f p low high) in (
-        ltb-false (unencrypted f p) 1 (false-at _ e 0),
-        ltb-false (encrypted f p) (unencrypted f p) (false-at _ e 1),
-        ltb-false (total f p) (encrypted f p) (false-at _ e 2),
-        ltb-false (keyTotal f p) (keyActual f p) (false-at _ e 3),
-        ltb-false (signatureTotal f p) (signatureActual f p) (false-at _ e 4),
+      let e = kept-each 14 (ofHeader lengthsBad) f k p (partition-mem f p low high) in (
+        ltb-false (header f p .unencrypted) 1 (false-at _ e 0),
+        ltb-false (header f p .encrypted) (header f p .unencrypted) (false-at _ e 1),
+        ltb-false (header f p .total) (header f p .encrypted) (false-at _ e 2),
+        ltb-false (header f p .keyTotal) (header f p .keyActual) (false-at _ e 3),
+        ltb-false (header f p .signatureTotal) (header f p .signatureActual) (false-at _ e 4),
       )
 
-  pub span-stated : Kept (each 15 spanOutside) f → 4 * dataOffset f p + 4 * total f p ≤ length (f .bytes)
-  unfolding Inside endOf span
-  span-stated k = span-inside f p (kept-each 15 spanOutside f k p (partition-mem f p low high))
+  pub span-stated : Kept (each 15 (withHeader spanOutside)) f → 4 * header f p .dataOffset + 4 * header f p .total ≤ length (f .bytes)
+  unfolding Inside endOf span spanOf
+  span-stated k = span-inside f p (kept-each 15 (withHeader spanOutside) f k p (partition-mem f p low high))
 
-  pub load-stated : Kept (each 16 loadAddressWrong) f → loads f p ≡ true → loadAddress f p + 4 * unencrypted f p ≤ 0x1_0000_0000_0000_0000
-  unfolding past endOf loadRange addressSpace
-  load-stated k l = ltb-false addressSpace _ (load-in-space f p l (kept-each 16 loadAddressWrong f k p (partition-mem f p low high)))
+  pub load-stated : Kept (each 16 (ofHeader loadAddressBad)) f → loads f p ≡ true → loadAddressOf (header f p) + 4 * header f p .unencrypted ≤ 0x1_0000_0000_0000_0000
+  unfolding past endOf loadRange loadRangeOf addressSpace
+  load-stated k l = ltb-false addressSpace _ (load-in-space f p l (kept-each 16 (ofHeader loadAddressBad) f k p (partition-mem f p low high)))
 
 -- ---- bodies
 
-pub body-stated : (rs : List Rule) (f : File) → verdict rs f ≡ accepted → List·Mem (each 14 lengthsWrong) rs → List·Mem (each 15 spanOutside) rs
+pub body-stated : (rs : List Rule) (f : File) → verdict rs f ≡ accepted → List·Mem (each 14 (ofHeader lengthsBad)) rs → List·Mem (each 15 (withHeader spanOutside)) rs
     → (p : ℕ) → 1 ≤ p → p ≤ partitions f
-    → (bodyBy rs f p ≡ take (4 * encrypted f p) (cut (span f p) (f .bytes))) × (length (bodyBy rs f p) ≡ 4 * encrypted f p)
+    → (bodyBy rs f p ≡ take (4 * header f p .encrypted) (cut (span f p) (f .bytes))) × (length (bodyBy rs f p) ≡ 4 * header f p .encrypted)
 unfolding Keeps
 body-stated rs f e m14 m15 p l h =
     let keeps = accepted-keeps rs f e in
     let here = partition-mem f p l h in
-    let c = body-cut f p (kept-each 14 lengthsWrong f (keeps _ m14) p here) (kept-each 15 spanOutside f (keeps _ m15) p here) in
+    let c = body-cut f p (kept-each 14 (ofHeader lengthsBad) f (keeps _ m14) p here) (kept-each 15 (withHeader spanOutside) f (keeps _ m15) p here) in
     let b = body-accepted rs f e p l h in
     (b ∙ c .0, ap length b ∙ c .1)
 
 pub body-answer-stated : (image : List ℕ) (place p : ℕ) → verdict rules (asked image place) ≡ accepted → 1 ≤ p → p ≤ partitions (asked image place)
-    → bodyAnswer image place p ≡ take (4 * encrypted (asked image place) p) (cut (span (asked image place) p) image)
-unfolding bodyAnswer rules headerRules tableRules partitionRules clashRules
+    → bodyAnswer image place p ≡ take (4 * header (asked image place) p .encrypted) (cut (span (asked image place) p) image)
+unfolding bodyAnswer rules readingRules tableRules partitionRules chainRule headerRules clashRules
 body-answer-stated image place p e l h =
     body-stated rules (asked image place) e (mem-at rules 12 (once 0 imageTooLong) (lit< tt)) (mem-at rules 13 (once 0 imageTooLong) (lit< tt)) p l h .0
 
@@ -274,12 +273,12 @@ no-such-body rs f p h =
 -- ---- loading and the bill
 
 module _ (rs : List Rule) (f : File) where
-  pub loading : verdict rs f ≡ accepted → List·Mem (each 16 loadAddressWrong) rs → List·Mem (each 19 loadRangesClash) rs
+  pub loading : verdict rs f ≡ accepted → List·Mem (each 16 (ofHeader loadAddressBad)) rs → List·Mem (each 19 loadRangesClash) rs
       → (m : Memory) (feeds : List Feed) → Whole (byHeaders f) feeds → Loaded (byHeaders f) m feeds
   unfolding Keeps
   loading e m16 m19 = loading-headers f (accepted-keeps rs f e _ m16) (accepted-keeps rs f e _ m19)
 
-  pub loading-by-rows : (rows : List ℕ) → verdict rs f ≡ accepted → List·Mem (each 16 loadAddressWrong) rs → List·Mem (each 19 loadRangesClash) rs
+  pub loading-by-rows : (rows : List ℕ) → verdict rs f ≡ accepted → List·Mem (each 16 (ofHeader loadAddressBad)) rs → List·Mem (each 19 loadRangesClash) rs
       → (m : Memory) (feeds : List Feed) → Whole (byRows (rowsAfter rs f rows)) feeds → Loaded (byRows (rowsAfter rs f rows)) m feeds
   unfolding Keeps
   loading-by-rows rows e m16 m19 = loading-rows rs f rows e (accepted-keeps rs f e _ m16) (accepted-keeps rs f e _ m19)
@@ -292,14 +291,14 @@ module _ (rs : List Rule) (f : File) where
   rows-state-the-same rows e =
       (count-after rs f rows e, λ p l h. (span-after rs f rows e p l h, loads-after rs f rows e p l h, range-after rs f rows e p l h))
 
-  pub bill-counts : verdict rs f ≡ accepted → List·Mem (each 15 spanOutside) rs → List·Mem (once 18 storedRangesClash) rs
+  pub bill-counts : verdict rs f ≡ accepted → List·Mem (each 15 (withHeader spanOutside)) rs → List·Mem (once 18 storedRangesClash) rs
       → (billBy rs f ≡ inSpans (byHeaders f) (length (f .bytes))) × (billBy rs f ≤ length (f .bytes))
   unfolding Keeps
   bill-counts e m15 m18 =
       let b = bill-accepted rs f e ∙ bill-headers f (accepted-keeps rs f e _ m15) (accepted-keeps rs f e _ m18) in
       (b, omega (arith, b, in-spans-at-most (byHeaders f) (length (f .bytes))))
 
-  pub bill-counts-by-rows : (rows : List ℕ) → verdict rs f ≡ accepted → List·Mem (each 15 spanOutside) rs → List·Mem (once 18 storedRangesClash) rs
+  pub bill-counts-by-rows : (rows : List ℕ) → verdict rs f ≡ accepted → List·Mem (each 15 (withHeader spanOutside)) rs → List·Mem (once 18 storedRangesClash) rs
       → billBy rs f ≡ inSpans (byRows (rowsAfter rs f rows)) (length (f .bytes))
   bill-counts-by-rows rows e m15 m18 = bill-counts e m15 m18 .0 ∙ sym (spans-rows rs f rows e (length (f .bytes)))
 
@@ -317,13 +316,13 @@ addresses-are f feeds address = (
 
 module _ (image : List ℕ) (place : ℕ) (rows : List ℕ) (e : readAnswer image place rows ≡ 0) where
   pub read-loads : (m : Memory) (feeds : List Feed) → Whole (byRows (readRows image place rows)) feeds → Loaded (byRows (readRows image place rows)) m feeds
-  unfolding readRows readRules bufferRules headerRules tableRules partitionRules clashRules
+  unfolding readRows readRules bufferRules readingRules tableRules partitionRules chainRule headerRules clashRules
   read-loads =
       loading-by-rows (readRules (length rows)) (asked image place) rows (read-verdict image place rows e)
       (mem-at (readRules (length rows)) 15 (once 0 imageTooLong) (lit< tt)) (mem-at (readRules (length rows)) 18 (once 0 imageTooLong) (lit< tt))
 
   pub read-counts : billAnswer image place ≡ inSpans (byRows (readRows image place rows)) (length image)
-  unfolding readRows billAnswer readRules bufferRules headerRules tableRules partitionRules clashRules
+  unfolding readRows billAnswer readRules bufferRules readingRules tableRules partitionRules chainRule headerRules clashRules
   read-counts =
       bill-accepted rules (asked image place) (read-accepts image place rows .0 e .1)
       ∙ sym (bill-accepted (readRules (length rows)) (asked image place) (read-verdict image place rows e))

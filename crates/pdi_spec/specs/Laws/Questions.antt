@@ -15,12 +15,11 @@ use lib.ListN.{length, take, drop, length-take, length-drop}
 use lib.Seq.{take-take}
 use borrow.Author.Tests.{ltb-false, le-ltb}
 use Rattle.pdi_spec.specs.Lists.{firstOf}
-use Rattle.pdi_spec.specs.Table.{File, partitions, partitionNumbers}
-use Rattle.pdi_spec.specs.Partition.{encrypted, total, dataOffset}
-use Rattle.pdi_spec.specs.Ranges.{endOf, span, bodyRange}
+use Rattle.pdi_spec.specs.File.{File, partitions, partitionNumbers, header}
+use Rattle.pdi_spec.specs.Ranges.{bodyOf, spanOf, endOf, span, body}
 use Rattle.pdi_spec.specs.Verdict.{Rule, once, each, eachAndTable, Outcome, accepted, refused, verdict, Kept, Keeps, FirstRefusal}
-use Rattle.pdi_spec.specs.Rules.{notFrom, imageTooLong, bufferTooShort, tableFieldsWrong, lengthsWrong, spanOutside}
-use Rattle.pdi_spec.specs.RuleList.{tableRules, partitionRules, headerRules, clashRules, rules, bufferRules}
+use Rattle.pdi_spec.specs.Rules.{notFrom, imageTooLong, bufferTooShort, tableFieldsBad, lengthsBad, spanOutside}
+use Rattle.pdi_spec.specs.RuleList.{ofTable, tableRules, chainRule, headerRules, partitionRules, readingRules, clashRules, rules, bufferRules}
 use Rattle.pdi_spec.specs.Answers.{answer, ifAccepted, billed, billBy, cut, bodyBy}
 use Rattle.pdi_spec.specs.Laws.Tests.{or-right, false-at, mem-numbers, numbers-ascending}
 use Rattle.pdi_spec.specs.Laws.Lists.{Every, every-mem}
@@ -92,7 +91,7 @@ module _ (f : File) where
       (well-once _ _ (lit< tt), (well-once _ _ (lit< tt), (well-once _ _ (lit< tt), (well-once _ _ (lit< tt), (well-once _ _ (lit< tt), (well-once _ _ (lit< tt), (well-once _ _ (lit< tt), tt)))))))
 
   pub well-partitions : Every (WellTried f) partitionRules
-  unfolding partitionRules
+  unfolding partitionRules chainRule headerRules
   well-partitions =
       (well-each _ _ (lit< tt), (well-each _ _ (lit< tt), (well-each _ _ (lit< tt), (well-each _ _ (lit< tt), (well-each _ _ (lit< tt), (well-each _ _ (lit< tt), (well-each _ _ (lit< tt), (well-with-table _ _ (lit< tt), tt))))))))
 
@@ -101,10 +100,10 @@ module _ (f : File) where
   well-clash = (well-once _ _ (lit< tt), (well-each _ _ (lit< tt), tt))
 
 -- rule 6 kept: at most 32 partitions
-pub few-partitions : (f : File) → Kept (once 6 tableFieldsWrong) f → partitions f ≤ 32
-unfolding tableFieldsWrong notFrom
+pub few-partitions : (f : File) → Kept (once 6 (ofTable tableFieldsBad)) f → partitions f ≤ 32
+unfolding tableFieldsBad notFrom partitions
 few-partitions f k =
-    ltb-false 32 (partitions f) (or-right (ltb (partitions f) 1) (ltb 32 (partitions f)) (false-at _ (kept-once 6 tableFieldsWrong f k) 1))
+    ltb-false 32 (partitions f) (or-right (ltb (partitions f) 1) (ltb 32 (partitions f)) (false-at _ (kept-once 6 (ofTable tableFieldsBad) f k) 1))
 
 -- rules 3 to 9 are tried once
 tried-once : (f : File) (r : Rule) → List·Mem r tableRules → r .tried f ≡ 0 ∷ []
@@ -129,7 +128,7 @@ p-at-most-32 front later f h bound k p e =
         let here = subst (λ (l : List Rule). List·Mem (t .rule) l) (sym (t .listed)) (mem-append-right (t .earlier) mem-cons-self) in
         let b = t .first-broken in
         let at = subst (λ (l : List ℕ). List·Mem p l) (sym (b .tried-so)) (mem-append-right (b .before) mem-cons-self) in
-        let few = few-partitions f (kept (once 6 tableFieldsWrong) (mem-at tableRules 3 (once 0 imageTooLong) (lit< tt))) in
+        let few = few-partitions f (kept (once 6 (ofTable tableFieldsBad)) (mem-at tableRules 3 (once 0 imageTooLong) (lit< tt))) in
         omega (arith, bound (t .rule) here p at, few)
 
 -- ---- the lists of read and of bill
@@ -146,15 +145,15 @@ pub buffer-list : (least have : ℕ) (f : File) → (verdict (bufferRules least 
 unfolding bufferRules rules bufferTooShort once Kept
 buffer-list least have f = (
   λ e.
-      let first = kept-head (once 1 imageTooLong) (once 2 (bufferTooShort least have) ∷ headerRules ++ clashRules) f e in
-      let second = kept-head (once 2 (bufferTooShort least have)) (headerRules ++ clashRules) f (first .1) in (
+      let first = kept-head (once 1 imageTooLong) (once 2 (bufferTooShort least have) ∷ readingRules ++ clashRules) f e in
+      let second = kept-head (once 2 (bufferTooShort least have)) (readingRules ++ clashRules) f (first .1) in (
         serves (kept-once 2 (bufferTooShort least have) f (second .0)),
-        verdict-kept (once 1 imageTooLong) (headerRules ++ clashRules) f (first .0) ∙ second .1,
+        verdict-kept (once 1 imageTooLong) (readingRules ++ clashRules) f (first .0) ∙ second .1,
       ),
   λ t.
-      let first = kept-head (once 1 imageTooLong) (headerRules ++ clashRules) f (t .1) in
-      verdict-kept (once 1 imageTooLong) (once 2 (bufferTooShort least have) ∷ headerRules ++ clashRules) f (first .0)
-      ∙ verdict-kept (once 2 (bufferTooShort least have)) (headerRules ++ clashRules) f (enough (t .0))
+      let first = kept-head (once 1 imageTooLong) (readingRules ++ clashRules) f (t .1) in
+      verdict-kept (once 1 imageTooLong) (once 2 (bufferTooShort least have) ∷ readingRules ++ clashRules) f (first .0)
+      ∙ verdict-kept (once 2 (bufferTooShort least have)) (readingRules ++ clashRules) f (enough (t .0))
       ∙ first .1,
 )
   where
@@ -167,18 +166,18 @@ buffer-list least have f = (
 -- ---- the body
 
 -- rules 14 and 15 kept: the body is the first 4E bytes of the span, and there are as many
-pub body-cut : (f : File) (p : ℕ) → lengthsWrong f p ≡ false → spanOutside f p ≡ false
-    → (cut (bodyRange f p) (f .bytes) ≡ take (4 * encrypted f p) (cut (span f p) (f .bytes))) × (length (cut (bodyRange f p) (f .bytes)) ≡ 4 * encrypted f p)
-unfolding lengthsWrong cut bodyRange span Inside endOf
+pub body-cut : (f : File) (p : ℕ) → lengthsBad (header f p) ≡ false → spanOutside (f .bytes) (header f p) ≡ false
+    → (cut (body f p) (f .bytes) ≡ take (4 * header f p .encrypted) (cut (span f p) (f .bytes))) × (length (cut (body f p) (f .bytes)) ≡ 4 * header f p .encrypted)
+unfolding lengthsBad cut body bodyOf span spanOf Inside endOf
 body-cut f p k l =
-    let order = ltb-false (total f p) (encrypted f p) (false-at _ k 2) in
+    let order = ltb-false (header f p .total) (header f p .encrypted) (false-at _ k 2) in
     let inside = span-inside f p l in (
-      sym (take-take (4 * encrypted f p) (4 * total f p) (drop (4 * dataOffset f p) (f .bytes)) (omega (arith, order))),
-      length-take (4 * encrypted f p) (drop (4 * dataOffset f p) (f .bytes)) ∙ omega (arith, order, inside, length-drop (4 * dataOffset f p) (f .bytes)),
+      sym (take-take (4 * header f p .encrypted) (4 * header f p .total) (drop (4 * header f p .dataOffset) (f .bytes)) (omega (arith, order))),
+      length-take (4 * header f p .encrypted) (drop (4 * header f p .dataOffset) (f .bytes)) ∙ omega (arith, order, inside, length-drop (4 * header f p .dataOffset) (f .bytes)),
     )
 
 -- where a list accepts, body hands back the body of each p from 1 to N, and nothing for another
-pub body-accepted : (rs : List Rule) (f : File) → verdict rs f ≡ accepted → (p : ℕ) → 1 ≤ p → p ≤ partitions f → bodyBy rs f p ≡ cut (bodyRange f p) (f .bytes)
+pub body-accepted : (rs : List Rule) (f : File) → verdict rs f ≡ accepted → (p : ℕ) → 1 ≤ p → p ≤ partitions f → bodyBy rs f p ≡ cut (body f p) (f .bytes)
 unfolding bodyBy ifAccepted notFrom
 body-accepted rs f e p l h = rw (e, le-ltb p 1 l, le-ltb (partitions f) p h) refl
 
@@ -186,7 +185,7 @@ pub body-none : (rs : List Rule) (f : File) (p : ℕ) → notFrom 1 (partitions 
 unfolding bodyBy ifAccepted
 body-none rs f p h = go (verdict rs f)
   where
-    go : (o : Outcome) → ifAccepted o (cond (notFrom 1 (partitions f) p) [] (cut (bodyRange f p) (f .bytes))) [] ≡ []
+    go : (o : Outcome) → ifAccepted o (cond (notFrom 1 (partitions f) p) [] (cut (body f p) (f .bytes))) [] ≡ []
     go accepted = rw h refl
     go (refused k q) = refl
 

@@ -9,8 +9,8 @@ use mathlib.Core.Path.{_≡_, refl, sym, _∙_, ap}
 use lib.ListN.{length, take, drop, getD, length-append, List·getD-append, length-drop}
 use lib.Seq.{drop-append-add, take-at, drop-at, getD-drop}
 use Rattle.pdi_spec.specs.Lists.{numbers}
-use Rattle.pdi_spec.specs.Table.{File, partitions, partitionNumbers}
-use Rattle.pdi_spec.specs.Partition.{hasLoadAddress}
+use Rattle.pdi_spec.specs.File.{File, partitions, partitionNumbers}
+use Rattle.pdi_spec.specs.Attributes.{hasLoadAddress}
 use Rattle.pdi_spec.specs.Ranges.{span, loads, loadRange}
 use Rattle.pdi_spec.specs.Verdict.{Rule, Outcome, accepted, refused, verdict}
 use Rattle.pdi_spec.specs.Answers.{ifAccepted, rowNumbers, rowOf, head, headAndRows, written, rowsAfter}

@@ -10,7 +10,7 @@ use mathlib.Core.Logic.{_⊎_, inl, inr, ⊎-elim, ∥∥₁-elim, Or·elim}
 use mathlib.Core.Option.{Option, none, some, Option·elim}
 use mathlib.Core.Path.{_≡_, refl, sym, _∙_, ap, subst}
 use Rattle.pdi_spec.specs.Lists.{numbers, firstOf}
-use Rattle.pdi_spec.specs.Table.{File}
+use Rattle.pdi_spec.specs.File.{File}
 use Rattle.pdi_spec.specs.Verdict.{Rule, accepted, refused, verdict, Kept, Keeps, FirstRefusal}
 use Rattle.pdi_spec.specs.Laws.Tests.{either, never-both, mem-numbers, numbers-mem, numbers-ascending}
 
