@@ -6,31 +6,31 @@ use mathlib.Core.List.{[], _∷_}
 use Rattle.pdi_spec.specs.Lists.{isIn}
 use Rattle.pdi_spec.specs.Words.{bits}
 
-unfoldable pub clusterOf : ℕ → ℕ
+abbrev pub clusterOf : ℕ → ℕ
 clusterOf word = bits word 31 29
 
-unfoldable pub dpaOf : ℕ → ℕ
+abbrev pub dpaOf : ℕ → ℕ
 dpaOf word = bits word 28 27
 
-unfoldable pub typeOf : ℕ → ℕ
+abbrev pub typeOf : ℕ → ℕ
 typeOf word = bits word 26 24
 
-unfoldable pub reservedOf : ℕ → ℕ
+abbrev pub reservedOf : ℕ → ℕ
 reservedOf word = bits word 22 21
 
-unfoldable pub tcmFlagOf : ℕ → ℕ
+abbrev pub tcmFlagOf : ℕ → ℕ
 tcmFlagOf word = bits word 20 19
 
-unfoldable pub ownerOf : ℕ → ℕ
+abbrev pub ownerOf : ℕ → ℕ
 ownerOf word = bits word 17 16
 
-unfoldable pub checksumTypeOf : ℕ → ℕ
+abbrev pub checksumTypeOf : ℕ → ℕ
 checksumTypeOf word = bits word 13 12
 
-unfoldable pub cpuOf : ℕ → ℕ
+abbrev pub cpuOf : ℕ → ℕ
 cpuOf word = bits word 11 8
 
-unfoldable pub lockstepOf : ℕ → ℕ
+abbrev pub lockstepOf : ℕ → ℕ
 lockstepOf word = bits word 5 4
 
 -- "A partition has a load address if its type, attribute bits 26:24, is 1, 4 or 5."

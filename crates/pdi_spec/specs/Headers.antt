@@ -32,13 +32,13 @@ unfoldable pub kindFrom : List ℕ → ℕ → ℕ
 kindFrom bytes at = cond (spells bytes at FPDI) 1 (cond (spells bytes at PPDI) 2 0)
 
 -- Header sizes in words (003): bits 7:0 the table's, 15:8 an image header's, 23:16 a partition header's.
-unfoldable pub tableWordsOf : ℕ → ℕ
+abbrev pub tableWordsOf : ℕ → ℕ
 tableWordsOf sizes = bits sizes 7 0
 
-unfoldable pub imageHeaderWordsOf : ℕ → ℕ
+abbrev pub imageHeaderWordsOf : ℕ → ℕ
 imageHeaderWordsOf sizes = bits sizes 15 8
 
-unfoldable pub partitionHeaderWordsOf : ℕ → ℕ
+abbrev pub partitionHeaderWordsOf : ℕ → ℕ
 partitionHeaderWordsOf sizes = bits sizes 23 16
 
 pub record Table : Type 0 where

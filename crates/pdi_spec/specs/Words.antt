@@ -28,7 +28,7 @@ unfoldable pub bootChecksum : List ℕ → ℕ → ℕ → ℕ
 bootChecksum bytes at n = (2 ^ 32 - sumOf (run bytes at n) % 2 ^ 32) % 2 ^ 32
 
 -- the bits high to low of a word, as document 01 writes them: bits w 31 29
-unfoldable pub bits : ℕ → ℕ → ℕ → ℕ
+abbrev pub bits : ℕ → ℕ → ℕ → ℕ
 bits word high low = word / 2 ^ low % 2 ^ (suc high - low)
 
 -- the bytes from `at` on are those of the text
