@@ -1,0 +1,20 @@
+// The stages of reading: each tries some rules, lowest number first, and answers an enum, refused or checked.
+use headers::{PartitionHeader, TableHeader};
+
+// Rules 3 to 9: the number, or the table.
+pub enum TableStage {
+    Refused(u64),
+    Checked(TableHeader),
+}
+
+// The later rules: the number and p, or nothing more to say.
+pub enum Stage {
+    Refused(u64, u64),
+    Checked,
+}
+
+// Rule 10: the stage, and beside it the headers of the chain. All are blank where it is refused, and so are those past the last.
+pub struct Chain {
+    pub stage: Stage,
+    pub headers: [PartitionHeader; 32],
+}
