@@ -1,23 +1,22 @@
 -- Laws of the walks: on a file's own headers each is the verdict of pdi_spec's rules; and a list of rules in two parts. Assumes nothing.
-use Prim.Native.Nat.{ℕ, zero, suc, _+_, _-_, _≤_, _<_}
-use native.Mathlib.Numerals.{sub-one}
+use Prim.Native.Nat.{ℕ, zero, suc, _-_, _≤_}
 use native.Mathlib.Omega.{arith}
-use mathlib.Core.Bool.{Bool, true, false, cond, not, _&&_, _||_}
+use mathlib.Core.Bool.{Bool, true, false, cond, _&&_, _||_}
 use mathlib.Core.List.{List, [], _∷_, _++_, map, flatMap, List·Mem, mem-cons-self, mem-cons-of-mem}
 use mathlib.Core.Option.{Option, none, some, Option·elim}
 use mathlib.Core.Path.{_≡_, refl, sym, _∙_, ap, ap₂}
 use lib.Dec.{eqb}
 use lib.ListN.{take}
-use Rattle.pdi_spec.specs.Lists.{numbers, anyTrue, anyOf, anyPair, firstOf}
+use Rattle.pdi_spec.specs.Lists.{numbers, anyOf, firstOf}
 use Rattle.pdi_spec.specs.Headers.{Block, Header}
 use Rattle.pdi_spec.specs.Attributes.{hasLoadAddress}
 use Rattle.pdi_spec.specs.File.{File, table, isFull, partitions, partitionNumbers, header, blockOf}
-use Rattle.pdi_spec.specs.Ranges.{bootRange, tableWithOptional, imageHeaders, Range, overlap, sameRange, headerRange, spanOf, bodyOf, span, body, spans, bodies, headerRanges, blockRanges, hashBlocks, meet, loads, loadRange, loadRangeOf}
-use Rattle.pdi_spec.specs.Rules.{headerChecksumBad, attributesBad, keyUnknown, lengthsBad, spanOutside, loadAddressBad, hashBlockWrong, storedRangesClash, loadRangesClash}
+use Rattle.pdi_spec.specs.Ranges.{bootRange, tableWithOptional, imageHeaders, Range, headerRange, spanOf, bodyOf, span, body, spans, bodies, headerRanges, blockRanges, hashBlocks, meet, loads, loadRange, loadRangeOf}
+use Rattle.pdi_spec.specs.Rules.{chainBroken, headerChecksumBad, attributesBad, keyUnknown, lengthsBad, spanOutside, loadAddressBad, hashBlockWrong, storedRangesClash, loadRangesClash}
 use Rattle.pdi_spec.specs.RuleList.{headerRules}
 use Rattle.pdi_spec.specs.Verdict.{Rule, once, each, eachAndTable, Outcome, accepted, refused, verdict}
 use Rattle.pdi_spec.specs.Laws.Tests.{mem-numbers}
-use Rattle.rules.specs.Walks.{firstAt, outcomeOf, headerConditions, tryConditions, headersOutcome, blockWrong, blocksOutcome, headerRangesOf, blocksOf, hashBlocksOf, storedClash, storedOutcome, meetsEarlier, loadsOutcome}
+use Rattle.rules.specs.Walks.{linkBroken, firstAt, outcomeOf, headerConditions, tryConditions, headersOutcome, blockWrong, blocksOutcome, headerRangesOf, blocksOf, hashBlocksOf, storedClash, storedOutcome, meetsEarlier, loadsOutcome}
 
 -- the headers of a file's chain
 unfoldable pub chainOf : File → List Header
@@ -77,6 +76,12 @@ first-same t u (x ∷ xs) h =
     ap₂ (λ (b : Bool) (o : Option ℕ). cond b (some x) o) (h x mem-cons-self) (first-same t u xs (λ y m. h y (mem-cons-of-mem x m)))
 
 module _ (f : File) where
+  -- ---- rule 10
+
+  pub link-same : (p : ℕ) → chainBroken f p ≡ linkBroken (f .bytes) (partitions f) p (header f p)
+  unfolding chainBroken linkBroken
+  link-same p = refl
+
   -- ---- rules 11 to 16
 
   walked : (bad : Header → Bool) → firstOf (λ (p : ℕ). bad (header f p)) (partitionNumbers f) ≡ firstAt (λ p h. bad h) 1 (chainOf f)

@@ -3,7 +3,7 @@ use Prim.Native.Nat.{ℕ, _-_}
 use mathlib.Core.List.{List, [], _∷_, _++_, map}
 use lib.ListN.{replicate}
 use Rattle.pdi_spec.specs.Lists.{numbers}
-use Rattle.pdi_spec.specs.Headers.{Table, Header, tableFrom, headerFrom}
+use Rattle.pdi_spec.specs.Headers.{Table, Header}
 use Rattle.pdi_spec.specs.File.{File, table, partitions, header}
 use Rattle.pdi_spec.specs.Verdict.{Outcome, accepted, refused, verdict}
 use Rattle.pdi_spec.specs.RuleList.{tableRules, chainRule}
@@ -30,7 +30,7 @@ toTable t =
       «optional_words» = t .optionalWords;
       block = record { size = t .block .size; offset = t .block .offset };
       reserved = t .reserved;
-      checksum = t .checksum
+      checksum = t .checksum;
     }
 
 abbrev pub toHeader : Header → PartitionHeader
@@ -54,7 +54,7 @@ toHeader h =
       «signature_total» = h .signatureTotal;
       «signature_actual» = h .signatureActual;
       reserved = h .reserved;
-      checksum = h .checksum
+      checksum = h .checksum;
     }
 
 -- rules 3 to 9
@@ -69,3 +69,42 @@ tableStage f = tableStageOf (verdict tableRules f) (table f)
 unfoldable pub stageOf : Outcome → Stage
 stageOf accepted = Stage.Checked
 stageOf (refused number p) = Stage.Refused number p
+
+-- ---- rule 10: the stage, and the headers beside it
+
+-- a header of zeros
+unfoldable pub blank : PartitionHeader
+blank =
+    toHeader
+    (record {
+      at = 0;
+      encrypted = 0;
+      unencrypted = 0;
+      total = 0;
+      next = 0;
+      execution = 0;
+      loadLow = 0;
+      loadHigh = 0;
+      dataOffset = 0;
+      attributes = 0;
+      checksumOffset = 0;
+      key = 0;
+      block = record { size = 0; offset = 0 };
+      keyTotal = 0;
+      keyActual = 0;
+      signatureTotal = 0;
+      signatureActual = 0;
+      reserved = 0;
+      checksum = 0;
+    })
+
+-- the first n headers of the chain, and blank ones up to 32
+unfoldable pub headerArray : File → ℕ → List PartitionHeader
+headerArray f n = map (λ (p : ℕ). toHeader (header f p)) (numbers 1 n) ++ replicate (32 - n) blank
+
+unfoldable pub chainAnswerOf : Outcome → File → Chain
+chainAnswerOf accepted f = record { stage = Stage.Checked; headers = headerArray f (partitions f) }
+chainAnswerOf (refused number p) f = record { stage = Stage.Refused number p; headers = headerArray f 0 }
+
+unfoldable pub chainAnswer : File → Chain
+chainAnswer f = chainAnswerOf (verdict (chainRule ∷ []) f) f

@@ -1,16 +1,16 @@
 -- The rules of partitions as walks over a list of headers, in the order in which the code makes them: what each stage's contract cites.
--- Walks/Laws: each is the verdict of pdi_spec's own rules on a file whose headers those are. Assumes nothing.
-use Prim.Native.Nat.{ℕ, zero, suc, _-_}
+-- Laws.antt: each is the verdict of pdi_spec's own rules on a file whose headers those are. Assumes nothing.
+use Prim.Native.Nat.{ℕ, suc, _-_}
 use mathlib.Core.Bool.{Bool, cond, not, _&&_}
 use mathlib.Core.List.{List, [], _∷_, _++_, map, flatMap}
 use mathlib.Core.Option.{Option, none, some, Option·elim}
-use lib.Dec.{eqb}
-use lib.ListN.{take}
+use lib.Dec.{eqb, ltb}
+use lib.ListN.{length, take}
 use Rattle.pdi_spec.specs.Lists.{anyTrue, anyOf, anyPair}
 use Rattle.pdi_spec.specs.Headers.{Block, Table, Header}
 use Rattle.pdi_spec.specs.Attributes.{hasLoadAddress}
 use Rattle.pdi_spec.specs.HashBlock.{noBlock}
-use Rattle.pdi_spec.specs.Ranges.{Range, overlap, sameRange, bootRange, tableWithOptional, imageHeaders, headerRange, spanOf, bodyOf, blockRanges, meet, loadRangeOf}
+use Rattle.pdi_spec.specs.Ranges.{Range, past, overlap, sameRange, bootRange, tableWithOptional, imageHeaders, headerRange, spanOf, bodyOf, blockRanges, meet, loadRangeOf}
 use Rattle.pdi_spec.specs.Verdict.{Outcome, accepted, refused}
 use Rattle.pdi_spec.specs.Rules.{headerChecksumBad, attributesBad, keyUnknown, lengthsBad, spanOutside, loadAddressBad, hashBlockBad}
 
@@ -22,6 +22,17 @@ firstAt test from (x ∷ xs) = let rest = firstAt test (suc from) xs in cond (te
 -- the outcome of one rule: refused with its number at that place
 unfoldable pub outcomeOf : ℕ → Option ℕ → Outcome
 outcomeOf number found = Option·elim found accepted (refused number)
+
+-- ---- rule 10
+
+-- header p of n, read where the chain says
+unfoldable pub linkBroken : List ℕ → ℕ → ℕ → Header → Bool
+linkBroken bytes n p h =
+    anyTrue
+    (past (length bytes) (headerRange h)
+    ∷ (ltb p n && eqb (h .next) 0)
+    ∷ (eqb p n && not (eqb (h .next) 0))
+    ∷ [])
 
 -- ---- rules 11 to 16
 

@@ -1,5 +1,6 @@
 // The stages of reading: each tries some rules, lowest number first, and answers an enum, refused or checked.
-use headers::{PartitionHeader, TableHeader};
+use headers::PartitionHeader;
+use headers::TableHeader;
 
 // Rules 3 to 9: the number, or the table.
 pub enum TableStage {
