@@ -1,0 +1,43 @@
+-- `envelope::open` meets its contract: each answer follows from the tests passed on the way, by the laws of Told.antt. Assumes nothing.
+use borrow.Author.Needs.{needs}
+use native.Mathlib.Omega.{arith}
+use Rattle.envelope.proofs.Told.{wrong-version, too-long, wrong-length, holds-told}
+use Rattle.envelope.proofs.open.Statement.{statement}
+use Rattle.envelope.proofs.open.Tie as tie
+
+byte-at-requires : tie.Need-byte-at-requires
+byte-at-requires c κs = search needs
+
+returns : tie.Need-returns
+returns c = wrong-version _ (omega arith)
+
+big-endian-at-requires : tie.Need-big-endian-at-requires
+big-endian-at-requires c κs = search needs
+
+returns-2 : tie.Need-returns-2
+returns-2 c = too-long _ (omega arith) (omega arith)
+
+add-if3 : tie.Need-add-if3
+add-if3 c = search needs
+
+returns-3 : tie.Need-returns-3
+returns-3 c = wrong-length _ (omega arith) (omega arith) (omega arith)
+
+big-endian-at-requires-2 : tie.Need-big-endian-at-requires-2
+big-endian-at-requires-2 c κs = search needs
+
+returns-4 : tie.Need-returns-4
+returns-4 c = rw (c .big-endian-at2 .ensures) (holds-told _ (omega arith) (omega arith) (omega arith))
+
+pub open-spec : {M : Type 1} → statement M
+open-spec =
+    tie.close
+    (tie.spec
+    byte-at-requires
+    returns
+    big-endian-at-requires
+    returns-2
+    add-if3
+    returns-3
+    big-endian-at-requires-2
+    returns-4)
