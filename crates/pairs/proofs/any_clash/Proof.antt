@@ -1,0 +1,133 @@
+-- `pairs::any_clash` meets its contract: each entry is held against the later ones, and while nothing is found the answer is that of what is
+-- left. Assumes nothing.
+use borrow.Author.Needs.{needs}
+use Prim.Native.Nat.{_+_, _-_, _≤_, _<_}
+use native.Mathlib.Omega.{arith}
+use mathlib.Core.Path.{_≡_, refl, sym, _∙_}
+use lib.ListN.{length, drop}
+use Rattle.pdi_spec.specs.Lists.{anyOf, anyPair}
+use Rattle.pairs.specs.Clashes.{clashes}
+use Rattle.ranges.specs.Range.{rangeOf}
+use Rattle.ranges.specs.declared.Range.{Range}
+use Rattle.pairs.proofs.Searches.{firsts, any-found, any-next, any-end, pair-found, pair-next, pair-end}
+use Rattle.pairs.proofs.any_clash.Statement.{statement}
+use Rattle.pairs.proofs.any_clash.Tie as tie
+
+-- what an index past the end would read
+abbrev none : Range
+none = record { start = 0; size = 0 }
+
+abbrev Inv-loop2 : tie.InvT-loop2
+Inv-loop2 n equals list i a j₀ j =
+    (i < n) × (j ≤ n) × (n ≤ length list) × (anyPair (clashes equals) (firsts rangeOf n list) ≡ anyPair (clashes equals) (drop i (firsts rangeOf n list)))
+    × (anyOf (clashes equals (rangeOf a)) (drop (i + 1) (firsts rangeOf n list)) ≡ anyOf (clashes equals (rangeOf a)) (drop j (firsts rangeOf n list)))
+
+abbrev μ-loop2 : tie.MeasureT-loop2
+μ-loop2 n equals list i a j₀ j = n - j
+
+abbrev Inv-loop : tie.InvT-loop
+Inv-loop n equals list i₀ i =
+    (i ≤ n) × (n ≤ length list) × (anyPair (clashes equals) (firsts rangeOf n list) ≡ anyPair (clashes equals) (drop i (firsts rangeOf n list)))
+
+abbrev μ-loop : tie.MeasureT-loop
+μ-loop n equals list i₀ i = n - i
+
+loop-holds : tie.Need-loop-holds Inv-loop2 μ-loop2 Inv-loop μ-loop
+loop-holds c = (omega arith, omega arith, refl)
+
+mul-a : tie.Need-mul-a Inv-loop2 μ-loop2 Inv-loop μ-loop
+mul-a c = omega arith
+
+array-copy-out-a : tie.Need-array-copy-out-a Inv-loop2 μ-loop2 Inv-loop μ-loop
+array-copy-out-a c = omega arith
+
+add-j : tie.Need-add-j Inv-loop2 μ-loop2 Inv-loop μ-loop
+add-j c = omega arith
+
+loop2-holds : tie.Need-loop2-holds Inv-loop2 μ-loop2 Inv-loop μ-loop
+loop2-holds c = (omega arith, omega arith, omega arith, c .before .before .loop .inv .2, refl)
+
+mul-b : tie.Need-mul-b Inv-loop2 μ-loop2 Inv-loop μ-loop
+mul-b c = omega arith
+
+array-copy-out-b : tie.Need-array-copy-out-b Inv-loop2 μ-loop2 Inv-loop μ-loop
+array-copy-out-b c = omega arith
+
+clash-requires : tie.Need-clash-requires Inv-loop2 μ-loop2 Inv-loop μ-loop
+clash-requires c κs = search needs
+
+returns : tie.Need-returns Inv-loop2 μ-loop2 Inv-loop μ-loop
+returns c =
+    let s = c .before .before .before .before .before .before .before .before in
+    let i = c .before .before .before .before .before .before .before .loop .i in
+    let w = c .before .before .before .before .loop2 in
+    sym
+    (w .inv .3
+    ∙ pair-found rangeOf (s .args .n) (s .args .t1) (clashes (s .args .equals)) (w .inv .2) i none (w .inv .0)
+    (w .inv .4 ∙ any-found rangeOf (s .args .n) (s .args .t1) _ (w .inv .2) (w .j) none (omega arith) (sym (c .before .clash .ensures) ∙ c .if1 .taken)))
+
+add-j-2 : tie.Need-add-j-2 Inv-loop2 μ-loop2 Inv-loop μ-loop
+add-j-2 c = omega arith
+
+loop2-less : tie.Need-loop2-less Inv-loop2 μ-loop2 Inv-loop μ-loop
+loop2-less c = omega arith
+
+loop2-again : tie.Need-loop2-again Inv-loop2 μ-loop2 Inv-loop μ-loop
+loop2-again c =
+    let s = c .before .before .before .before .before .before .before .before in
+    let w = c .before .before .before .before .loop2 in (
+      w .inv .0,
+      omega arith,
+      w .inv .2,
+      w .inv .3,
+      w .inv .4 ∙ any-next rangeOf (s .args .n) (s .args .t1) _ (w .inv .2) (w .j) none (omega arith) (sym (c .before .clash .ensures) ∙ c .if1 .left),
+    )
+
+add-i : tie.Need-add-i Inv-loop2 μ-loop2 Inv-loop μ-loop
+add-i c = omega arith
+
+loop-less : tie.Need-loop-less Inv-loop2 μ-loop2 Inv-loop μ-loop
+loop-less c = omega arith
+
+loop-again : tie.Need-loop-again Inv-loop2 μ-loop2 Inv-loop μ-loop
+loop-again c =
+    let s = c .before .before .before .before .before in
+    let i = c .before .before .before .before .loop .i in
+    let w = c .before .loop2 in (
+      omega arith,
+      w .inv .2,
+      w .inv .3
+          ∙ pair-next rangeOf (s .args .n) (s .args .t1) (clashes (s .args .equals)) (w .inv .2) i none (w .inv .0)
+          (w .inv .4 ∙ any-end rangeOf (s .args .n) (s .args .t1) _ (w .inv .2) (w .j) (omega arith)),
+    )
+
+returns-2 : tie.Need-returns-2 Inv-loop2 μ-loop2 Inv-loop μ-loop
+returns-2 c =
+    let s = c .before .before in
+    let l = c .before .loop in
+    sym (l .inv .2 ∙ pair-end rangeOf (s .args .n) (s .args .t1) (clashes (s .args .equals)) (l .inv .1) (l .i) (omega arith))
+
+pub any-clash-spec : {M : Type 1} → statement M
+any-clash-spec =
+    tie.close
+    (tie.spec
+    Inv-loop2
+    μ-loop2
+    Inv-loop
+    μ-loop
+    loop-holds
+    mul-a
+    array-copy-out-a
+    add-j
+    loop2-holds
+    mul-b
+    array-copy-out-b
+    clash-requires
+    returns
+    add-j-2
+    loop2-less
+    loop2-again
+    add-i
+    loop-less
+    loop-again
+    returns-2)
