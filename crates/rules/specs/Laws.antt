@@ -2,7 +2,7 @@
 use Prim.Native.Nat.{ℕ, zero, suc, _-_, _≤_}
 use native.Mathlib.Omega.{arith}
 use mathlib.Core.Bool.{Bool, true, false, cond, _&&_, _||_}
-use mathlib.Core.List.{List, [], _∷_, _++_, map, flatMap, List·Mem, mem-cons-self, mem-cons-of-mem}
+use mathlib.Core.List.{List, [], _∷_, _++_, map, flatMap, append-assoc, List·Mem, mem-cons-self, mem-cons-of-mem}
 use mathlib.Core.Option.{Option, none, some, Option·elim}
 use mathlib.Core.Path.{_≡_, refl, sym, _∙_, ap, ap₂}
 use lib.Dec.{eqb}
@@ -13,7 +13,7 @@ use Rattle.pdi_spec.specs.Attributes.{hasLoadAddress}
 use Rattle.pdi_spec.specs.File.{File, table, isFull, partitions, partitionNumbers, header, blockOf}
 use Rattle.pdi_spec.specs.Ranges.{bootRange, tableWithOptional, imageHeaders, Range, headerRange, spanOf, bodyOf, span, body, spans, bodies, headerRanges, blockRanges, hashBlocks, meet, loads, loadRange, loadRangeOf}
 use Rattle.pdi_spec.specs.Rules.{chainBroken, headerChecksumBad, attributesBad, keyUnknown, lengthsBad, spanOutside, loadAddressBad, hashBlockWrong, storedRangesClash, loadRangesClash}
-use Rattle.pdi_spec.specs.RuleList.{headerRules}
+use Rattle.pdi_spec.specs.RuleList.{tableRules, chainRule, headerRules, partitionRules, readingRules, clashRules}
 use Rattle.pdi_spec.specs.Verdict.{Rule, once, each, eachAndTable, Outcome, accepted, refused, verdict}
 use Rattle.pdi_spec.specs.Laws.Tests.{mem-numbers}
 use Rattle.rules.specs.Walks.{linkBroken, firstAt, outcomeOf, headerConditions, tryConditions, headersOutcome, blockWrong, blocksOutcome, headerRangesOf, blocksOf, hashBlocksOf, storedClash, storedOutcome, meetsEarlier, loadsOutcome}
@@ -166,3 +166,24 @@ module _ (f : File) where
       ap (λ (o : Option ℕ). Option·elim o accepted (refused 19))
       (first-same (loadRangesClash f) (λ (p : ℕ). meetsEarlier (take (p - 1) (chainOf f)) (header f p)) (numbers 1 (partitions f)) meets-same
       ∙ walk-numbers (λ p h. meetsEarlier (take (p - 1) (chainOf f)) h) (header f) 1 (partitions f))
+
+  -- ---- rules 3 to 19, one stage after another
+
+  pub whole-verdict : verdict (readingRules ++ clashRules) f
+      ≡ andThen (verdict tableRules f)
+      (andThen (verdict (chainRule ∷ []) f)
+      (andThen (headersOutcome (f .bytes) (chainOf f))
+      (andThen (blocksOutcome (f .bytes) (blocksOf (table f) (chainOf f)))
+      (andThen (storedOutcome (table f) (chainOf f)) (loadsOutcome (chainOf f))))))
+  unfolding readingRules partitionRules clashRules
+  whole-verdict =
+      ap (λ (l : List Rule). verdict l f) (append-assoc tableRules (chainRule ∷ headerRules ++ (eachAndTable 17 hashBlockWrong ∷ [])) (once 18 storedRangesClash ∷ each 19 loadRangesClash ∷ []))
+      ∙ verdict-append tableRules _ f
+      ∙ ap (andThen (verdict tableRules f))
+      (verdict-append (chainRule ∷ []) _ f
+      ∙ ap (andThen (verdict (chainRule ∷ []) f))
+      (ap (λ (l : List Rule). verdict l f) (append-assoc headerRules (eachAndTable 17 hashBlockWrong ∷ []) (once 18 storedRangesClash ∷ each 19 loadRangesClash ∷ []))
+      ∙ verdict-append headerRules _ f
+      ∙ ap₂ andThen headers-verdict
+      (verdict-append (eachAndTable 17 hashBlockWrong ∷ []) _ f
+      ∙ ap₂ andThen blocks-verdict (verdict-append (once 18 storedRangesClash ∷ []) _ f ∙ ap₂ andThen stored-verdict loads-verdict))))
