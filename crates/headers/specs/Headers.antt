@@ -1,10 +1,14 @@
--- The code's structs as the records of pdi_spec. Assumes nothing.
+-- The code's structs as the records of pdi_spec, and a hash block's entry as it is read. Assumes nothing.
+use Prim.Native.Nat.{ℕ}
+use mathlib.Core.List.{List}
 use Rattle.pdi_spec.specs.Headers.{Table, Header, Boot}
 use Rattle.pdi_spec.specs.Headers as spec
-use Rattle.headers.specs.declared.Block.{Block}
-use Rattle.headers.specs.declared.TableHeader.{TableHeader}
-use Rattle.headers.specs.declared.PartitionHeader.{PartitionHeader}
-use Rattle.headers.specs.declared.BootHeader.{BootHeader}
+use Rattle.pdi_spec.specs.Words.{wordAt}
+use Rattle.headers.specs.declared.block.Block.{Block}
+use Rattle.headers.specs.declared.table.TableHeader.{TableHeader}
+use Rattle.headers.specs.declared.partition.PartitionHeader.{PartitionHeader}
+use Rattle.headers.specs.declared.boot.BootHeader.{BootHeader}
+use Rattle.headers.specs.declared.entry.HashEntry.{HashEntry}
 
 abbrev pub blockOf : Block → spec.Block
 blockOf b = record { size = b .size; offset = b .offset }
@@ -64,3 +68,7 @@ bootOf b =
       plmTotal = b .«plm_total»;
       checksum = b .checksum;
     }
+
+-- the entry at a byte offset: its index comes first
+unfoldable pub entryFrom : List ℕ → ℕ → HashEntry
+entryFrom bytes at = record { at = at; index = wordAt bytes at }

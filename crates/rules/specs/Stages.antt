@@ -7,9 +7,9 @@ use Rattle.pdi_spec.specs.Headers.{Table, Header}
 use Rattle.pdi_spec.specs.File.{File, table, partitions, header}
 use Rattle.pdi_spec.specs.Verdict.{Outcome, accepted, refused, verdict}
 use Rattle.pdi_spec.specs.RuleList.{tableRules, chainRule}
-use Rattle.headers.specs.declared.Block
-use Rattle.headers.specs.declared.TableHeader.{TableHeader}
-use Rattle.headers.specs.declared.PartitionHeader.{PartitionHeader}
+use Rattle.headers.specs.declared.block.Block
+use Rattle.headers.specs.declared.table.TableHeader.{TableHeader}
+use Rattle.headers.specs.declared.partition.PartitionHeader.{PartitionHeader}
 use Rattle.rules.specs.declared.TableStage.{TableStage}
 use Rattle.rules.specs.declared.Stage.{Stage}
 use Rattle.rules.specs.declared.Chain.{Chain}

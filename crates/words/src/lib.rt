@@ -2,7 +2,7 @@
 // byte past the end reads as 0, and what would lie past the end is not stored.
 ghost use mathlib.Core.Path.{_≡_};
 ghost use Prim.Native.Nat.{_+_, _-_, _*_, _/_, _%_, _^_, _≤_, _<_, min};
-ghost use lib.ListN.{length};
+ghost use lib.ListN.{length, drop};
 ghost use lib.Seq.{sets};
 ghost use Rattle.pdi_spec.specs.Words.{byteAt, wordAt, checksum, bootChecksum, spells};
 ghost use Rattle.pdi_spec.specs.Host.{leBytes};
@@ -19,6 +19,13 @@ pub fn byte_at(s: &[u8], at: usize) -> u8
     ensures { λ r. ⌜ r ≡ byteAt (now (s .entry)) at ⌝ }
 {
     if at < s.len() { s[at] } else { 0 }
+}
+
+// The part from an offset on, empty past the end. Its own offsets are small, so that none of them overflows.
+pub fn tail(s: &[u8], at: usize) -> &[u8]
+    ensures { λ r. ⌜ now r ≡ drop at (now (s .entry)) ⌝ }
+{
+    if at < s.len() { &s[at..] } else { &s[..0] }
 }
 
 fn wide(x: u8) -> u32

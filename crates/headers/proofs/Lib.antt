@@ -1,0 +1,2 @@
+-- What the proofs here share. Assumes nothing.
+pub mod Calls

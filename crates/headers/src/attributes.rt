@@ -1,0 +1,65 @@
+// An attribute word and its fields.
+ghost use mathlib.Core.Path.{_≡_};
+ghost use Rattle.pdi_spec.specs.Attributes.{checksumTypeOf, clusterOf, cpuOf, dpaOf, lockstepOf, ownerOf, reservedOf, tcmFlagOf, typeOf};
+
+// An attribute word.
+pub struct Attributes {
+    pub word: u32,
+}
+
+// The fields of an attribute word that a rule names.
+impl Attributes {
+    pub fn cluster(self) -> u32
+        ensures { λ r. ⌜ r ≡ clusterOf (self .word) ⌝ }
+    {
+        self.word / 0x2000_0000 % 8
+    }
+
+    pub fn dpa(self) -> u32
+        ensures { λ r. ⌜ r ≡ dpaOf (self .word) ⌝ }
+    {
+        self.word / 0x800_0000 % 4
+    }
+
+    pub fn partition_type(self) -> u32
+        ensures { λ r. ⌜ r ≡ typeOf (self .word) ⌝ }
+    {
+        self.word / 0x100_0000 % 8
+    }
+
+    pub fn reserved(self) -> u32
+        ensures { λ r. ⌜ r ≡ reservedOf (self .word) ⌝ }
+    {
+        self.word / 0x20_0000 % 4
+    }
+
+    pub fn tcm_flag(self) -> u32
+        ensures { λ r. ⌜ r ≡ tcmFlagOf (self .word) ⌝ }
+    {
+        self.word / 0x8_0000 % 4
+    }
+
+    pub fn owner(self) -> u32
+        ensures { λ r. ⌜ r ≡ ownerOf (self .word) ⌝ }
+    {
+        self.word / 0x1_0000 % 4
+    }
+
+    pub fn checksum_type(self) -> u32
+        ensures { λ r. ⌜ r ≡ checksumTypeOf (self .word) ⌝ }
+    {
+        self.word / 0x1000 % 4
+    }
+
+    pub fn cpu(self) -> u32
+        ensures { λ r. ⌜ r ≡ cpuOf (self .word) ⌝ }
+    {
+        self.word / 0x100 % 16
+    }
+
+    pub fn lockstep(self) -> u32
+        ensures { λ r. ⌜ r ≡ lockstepOf (self .word) ⌝ }
+    {
+        self.word / 0x10 % 4
+    }
+}
