@@ -1,0 +1,22 @@
+-- `conditions::table_fields_bad` meets its contract: its tests, joined, are the definition's list. Assumes nothing.
+use Rattle.pdi_spec.specs.Rules.{tableFieldsBad}
+use Rattle.conditions.proofs.Asked.{none-asked}
+use Rattle.conditions.proofs.Joined.{joined-any}
+use Rattle.conditions.proofs.table_fields_bad.Statement.{statement}
+use Rattle.conditions.proofs.table_fields_bad.Tie as tie
+
+returns : tie.Need-returns
+unfolding tableFieldsBad
+returns c =
+    let d = c .before .before in
+    let e = d .before .before in
+    rw (
+      d .partition-header-words .ensures,
+      d .before .image-header-words .ensures,
+      e .table-words .ensures,
+      e .before .not-from2 .ensures,
+      e .before .before .not-from .ensures,
+    ) (joined-any _ _)
+
+pub table-fields-bad-spec : {M : Type 1} → statement M
+table-fields-bad-spec = tie.close (tie.spec none-asked none-asked none-asked none-asked none-asked returns)
