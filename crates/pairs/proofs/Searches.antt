@@ -18,13 +18,13 @@ module _ {A B : Type 0} (f : A → B) (n : ℕ) (l : List A) where
   firsts-length h = length-map (take n l) f ∙ length-take-le n l h
 
   -- what is left from i on: the entry at i, and what is left after it
-  left : n ≤ length l → (i : ℕ) (d : A) → i < n → drop i firsts ≡ f (getD l i d) ∷ drop (i + 1) firsts
+  pub left : n ≤ length l → (i : ℕ) (d : A) → i < n → drop i firsts ≡ f (getD l i d) ∷ drop (i + 1) firsts
   left h i d k =
       drop-cons firsts i (f d) (omega (arith, firsts-length h))
       ∙ ap (λ (x : B). x ∷ drop (suc i) firsts) (List·getD-map f (take n l) i d ∙ ap f (getD-take n l i d k))
       ∙ ap (λ (j : ℕ). f (getD l i d) ∷ drop j firsts) (sym (add-one i))
 
-  none-left : n ≤ length l → (i : ℕ) → n ≤ i → drop i firsts ≡ []
+  pub none-left : n ≤ length l → (i : ℕ) → n ≤ i → drop i firsts ≡ []
   none-left h i k = drop-of-length-le firsts {i = i} (omega (arith, firsts-length h))
 
   -- ---- one entry after another

@@ -21,7 +21,7 @@ pub fn byte_at(s: &[u8], at: usize) -> u8
     if at < s.len() { s[at] } else { 0 }
 }
 
-// The part from an offset on, empty past the end. Its own offsets are small, so that none of them overflows.
+// The part from an offset on, empty past the end. What is read in it needs no sum with that offset, which could overflow.
 pub fn tail(s: &[u8], at: usize) -> &[u8]
     ensures { λ r. ⌜ now r ≡ drop at (now (s .entry)) ⌝ }
 {

@@ -1,0 +1,158 @@
+// Lists of ranges, made from the headers: the first `count` of an array of 67.
+ghost use Prim.Native.Nat.{_+_, _≤_};
+ghost use mathlib.Core.List.{[], map};
+ghost use mathlib.Core.Path.{_≡_};
+ghost use lib.ListN.{take};
+ghost use Rattle.clashes.specs.Lists.{Extends, Made, firstRanges, partRange, pushed, rangesIn, tableRanges};
+ghost use Rattle.headers.specs.Headers.{blockOf, headerOf, tableOf};
+ghost use Rattle.pairs.specs.Clashes.{clashes};
+ghost use Rattle.pdi_spec.specs.Lists.{anyOf, anyPair};
+ghost use Rattle.pdi_spec.specs.Ranges.{blockRanges, overlap};
+ghost use Rattle.ranges.specs.Range.{rangeOf};
+ghost use Rattle.rules.specs.Walks.{hashBlocksOf};
+use headers::Block;
+use headers::PartitionHeader;
+use headers::TableHeader;
+use ranges::Range;
+
+pub struct RangeList {
+    pub ranges: [Range; 67],
+    pub count: usize,
+}
+
+// Which range of a partition is meant.
+pub const HEADER: u8 = 0;
+
+pub const SPAN: u8 = 1;
+
+pub const BODY: u8 = 2;
+
+// The range of a partition's header, span or body.
+fn part_range(h: PartitionHeader, part: u8) -> Range
+    ensures { λ r. ⌜ rangeOf r ≡ partRange part (headerOf h) ⌝ }
+{
+    if part == HEADER {
+        return conditions::header_range(h);
+    }
+    if part == SPAN {
+        return conditions::span_of(h);
+    }
+    conditions::body_of(h)
+}
+
+fn empty() -> RangeList
+    ensures { λ r. ⌜ Made r [] ⌝ }
+{
+    let none = Range { start: 0, size: 0 };
+    RangeList {
+        ranges: [none; 67],
+        count: 0,
+    }
+}
+
+// The list and one range more.
+fn push(list: RangeList, r: Range) -> RangeList
+    requires { ⌜ list .count ≤ 66 ⌝ }
+    ensures { λ next. ⌜ next ≡ pushed list r ⌝ }
+{
+    let mut next = list;
+    let at = next.count;
+    next.ranges[at] = r;
+    next.count = at + 1;
+    next
+}
+
+// The list, and then the table with its optional data and the image headers.
+fn with_table(list: RangeList, table: TableHeader) -> RangeList
+    requires { ⌜ list .count ≤ 65 ⌝ }
+    ensures { λ r. ⌜ Extends list r (tableRanges (tableOf table)) ⌝ }
+{
+    let next = push(list, conditions::table_with_optional(table));
+    push(next, conditions::image_headers(table))
+}
+
+// The boot header of a full image, the table with its optional data, the image headers.
+pub fn first_ranges(table: TableHeader) -> RangeList
+    ensures { λ r. ⌜ Made r (firstRanges (tableOf table)) ⌝ }
+{
+    let none = empty();
+    if table.kind == 1 {
+        let boot = push(
+            none,
+            Range {
+                start: 0,
+                size: 4416,
+            },
+        );
+        return with_table(boot, table);
+    }
+    with_table(none, table)
+}
+
+// The list, and then one range of each of the first n partitions.
+pub fn with_parts(list: RangeList, headers: [PartitionHeader; 32], n: usize, part: u8) -> RangeList
+    requires few { ⌜ n ≤ 32 ⌝ }
+    requires room { ⌜ list .count + n ≤ 67 ⌝ }
+    ensures { λ r. ⌜ Extends list r (map (partRange part) (map headerOf (take n headers))) ⌝ }
+{
+    let mut next = list;
+    let mut i: usize = 0;
+    while i < n {
+        let h = headers[i];
+        let r = part_range(h, part);
+        let at = next.count;
+        next.ranges[at] = r;
+        next.count = at + 1;
+        i += 1;
+    }
+    next
+}
+
+// The list, and then the hash block, where there is one.
+fn with_block(list: RangeList, b: Block) -> RangeList
+    requires { ⌜ list .count ≤ 66 ⌝ }
+    ensures extends { λ r. ⌜ Extends list r (blockRanges (blockOf b)) ⌝ }
+    ensures counted { λ r. ⌜ r .count ≤ list .count + 1 ⌝ }
+{
+    if conditions::no_block(b) {
+        return list;
+    }
+    push(list, conditions::block_range(b))
+}
+
+// The table's hash block, then each partition's, where there is one.
+pub fn hash_blocks(table: TableHeader, headers: [PartitionHeader; 32], n: usize) -> RangeList
+    requires { ⌜ n ≤ 32 ⌝ }
+    ensures { λ r. ⌜ Made r (hashBlocksOf (tableOf table) (map headerOf (take n headers))) ⌝ }
+{
+    let none = empty();
+    let mut list = with_block(none, table.block);
+    let mut i: usize = 0;
+    while i < n {
+        let h = headers[i];
+        let b = h.block;
+        list = with_block(list, b);
+        i += 1;
+    }
+    list
+}
+
+// Some two ranges of the list clash; `equals` allows equal ones.
+pub fn clash_within(list: RangeList, equals: bool) -> bool
+    requires { ⌜ list .count ≤ 67 ⌝ }
+    ensures { λ r. ⌜ r ≡ anyPair (clashes equals) (rangesIn list) ⌝ }
+{
+    let ranges = list.ranges;
+    pairs::any_clash(ranges, list.count, equals)
+}
+
+// Some range of the first list overlaps one of the second.
+pub fn clash_between(a: RangeList, b: RangeList) -> bool
+    requires first { ⌜ a .count ≤ 67 ⌝ }
+    requires second { ⌜ b .count ≤ 67 ⌝ }
+    ensures { λ r. ⌜ r ≡ anyOf (λ x. anyOf (overlap x) (rangesIn b)) (rangesIn a) ⌝ }
+{
+    let left = a.ranges;
+    let right = b.ranges;
+    pairs::any_crossing(left, a.count, right, b.count)
+}
