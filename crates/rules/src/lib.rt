@@ -1,6 +1,15 @@
 // The stages of reading: each tries some rules, lowest number first, and answers an enum, refused or checked.
+mod block_rule;
+mod chain_rule;
+mod header_rules;
+mod table_rules;
+
+pub use block_rule::check_blocks;
+pub use chain_rule::check_chain;
+pub use header_rules::check_headers;
 use headers::PartitionHeader;
 use headers::TableHeader;
+pub use table_rules::check_table;
 
 // Rules 3 to 9: the number, or the table.
 pub enum TableStage {

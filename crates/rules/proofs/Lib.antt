@@ -1,0 +1,5 @@
+pub mod Blocks
+pub mod Chained
+pub mod Conditions
+pub mod Searches
+pub mod Table
