@@ -34,6 +34,7 @@ as-number : (t : Bool) → boolByte t ≡ cond t 1 0
 as-number true = refl
 as-number false = refl
 
+-- how many entries the loops pass
 abbrev pub entries : Block → ℕ
 entries b = b .size / 52
 

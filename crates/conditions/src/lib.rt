@@ -19,21 +19,23 @@ use headers::PartitionHeader;
 use headers::TableHeader;
 use ranges::Range;
 
-// Sizes in bytes: of the table and of a partition header, of the boot header, and of a hash block's entry.
+// The bytes of the table, and of a partition header.
 const HEADER_SIZE: u64 = 128;
 
+// The bytes of the boot header.
 const BOOT_SIZE: u64 = 4416;
 
+// The bytes of a hash block's entry.
 const ENTRY_SIZE: u32 = 52;
 
-// Words counted in bytes. The product may be over 2^32.
+// Words counted in bytes: the product may be over 2^32.
 fn in_bytes(words: u32) -> u64
     ensures { λ r. ⌜ r ≡ 4 * words ⌝ }
 {
     4 * (words as u64)
 }
 
-// The stored bytes of a partition: all of them, and those that are its body.
+// All stored bytes of a partition.
 pub fn span_of(h: PartitionHeader) -> Range
     ensures { λ r. ⌜ rangeOf r ≡ spanOf (headerOf h) ⌝ }
 {
@@ -43,6 +45,7 @@ pub fn span_of(h: PartitionHeader) -> Range
     }
 }
 
+// Its body: the first E words of them.
 pub fn body_of(h: PartitionHeader) -> Range
     ensures { λ r. ⌜ rangeOf r ≡ bodyOf (headerOf h) ⌝ }
 {
@@ -98,6 +101,7 @@ pub fn table_with_optional(t: TableHeader) -> Range
     }
 }
 
+// At most 2^32 headers of 255 words, so that the products fit.
 pub fn image_headers(t: TableHeader) -> Range
     ensures { λ r. ⌜ rangeOf r ≡ imageHeaders (tableOf t) ⌝ }
 {

@@ -38,7 +38,8 @@ pub fn check_blocks(
     while i < n {
         let h = headers[i];
         if block_wrong(image, i + 1, h.block) {
-            return Stage::Refused(17, i as u64 + 1);
+            let p = i as u64 + 1;
+            return Stage::Refused(17, p);
         }
         i += 1;
     }

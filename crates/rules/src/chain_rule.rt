@@ -14,7 +14,7 @@ use headers::PartitionHeader;
 use headers::TableHeader;
 
 // What stands in the array where no header does.
-fn blank() -> PartitionHeader
+pub fn blank() -> PartitionHeader
     ensures { λ r. ⌜ r ≡ blank ⌝ }
 {
     PartitionHeader {
@@ -49,6 +49,7 @@ fn link_broken(image: &[u8], n: usize, p: usize, h: PartitionHeader) -> bool
         | ((p == n) & (h.next != 0))
 }
 
+// A header is read before its link is tested: a byte past the image reads as 0, so no reading fails.
 pub fn check_chain(image: &[u8], table: TableHeader) -> Chain
     requires read { ⌜ tableOf table ≡ tableFrom (now image) (table .place) ⌝ }
     requires few { ⌜ table .partitions ≤ 32 ⌝ }
@@ -62,9 +63,10 @@ pub fn check_chain(image: &[u8], table: TableHeader) -> Chain
     while i < n {
         let h = PartitionHeader::read(image, at);
         if link_broken(image, n, i + 1, h) {
+            let p = i as u64 + 1;
             let blanks = [none; 32];
             return Chain {
-                stage: Stage::Refused(10, i as u64 + 1),
+                stage: Stage::Refused(10, p),
                 headers: blanks,
             };
         }

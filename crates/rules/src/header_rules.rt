@@ -36,7 +36,8 @@ pub fn check_headers(image: &[u8], headers: [PartitionHeader; 32], n: usize) -> 
         while i < n {
             let h = headers[i];
             if header_bad(number, image, h) {
-                return Stage::Refused(number, i as u64 + 1);
+                let p = i as u64 + 1;
+                return Stage::Refused(number, p);
             }
             i += 1;
         }

@@ -5,6 +5,7 @@ mod header_rules;
 mod table_rules;
 
 pub use block_rule::check_blocks;
+pub use chain_rule::blank;
 pub use chain_rule::check_chain;
 pub use header_rules::check_headers;
 use headers::PartitionHeader;

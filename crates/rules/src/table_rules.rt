@@ -29,6 +29,7 @@ fn boot_header_wrong(image: &[u8], t: TableHeader) -> bool
     false
 }
 
+// The tests run in the order of their numbers, so the first that is true has the lowest.
 pub fn check_table(image: &[u8], place: usize) -> TableStage
     ensures { λ r. ⌜ r ≡ tableStage (asked (now (image .entry)) place) ⌝ }
 {

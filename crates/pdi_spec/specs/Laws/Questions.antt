@@ -24,7 +24,7 @@ use Rattle.pdi_spec.specs.Answers.{answer, ifAccepted, billed, billBy, c
 use Rattle.pdi_spec.specs.Laws.Tests.{or-right, false-at, mem-numbers, numbers-ascending}
 use Rattle.pdi_spec.specs.Laws.Lists.{Every, every-mem}
 use Rattle.pdi_spec.specs.Laws.Kept.{kept-once, mem-at, Inside, span-inside}
-use Rattle.pdi_spec.specs.Laws.Verdict.{first-mem, first-none, first-some, keeps-cons, accepted-keeps, refused-first, verdict-broken, verdict-kept, no-such-number, refused-p}
+use Rattle.pdi_spec.specs.Laws.Verdict.{first-mem, first-none, first-some, keeps-cons, accepted-keeps, refused-first, verdict-broken, verdict-kept, no-such-number, refused-p, accepted-not-refused}
 
 -- ---- the answer
 
@@ -202,3 +202,9 @@ bill-refused rs f k p e = rw e refl
 pub body-refused : (rs : List Rule) (f : File) (k p : ℕ) → verdict rs f ≡ refused k p → (q : ℕ) → bodyBy rs f q ≡ []
 unfolding bodyBy ifAccepted
 body-refused rs f k p e q = rw e refl
+
+-- rules 3 to 9 refuse with p = 0
+pub table-p : (f : File) (k p : ℕ) → verdict tableRules f ≡ refused k p → p ≡ 0
+unfolding tableRules verdict
+table-p f k p e =
+    ⊎-elim (λ z. z) (λ t. absurd (accepted-not-refused (t .1))) (once-or-rest tableRules [] f (tried-once f) k p e)

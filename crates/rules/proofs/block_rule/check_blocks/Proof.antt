@@ -39,8 +39,8 @@ array-copy-out-h c = omega arith
 add-block-wrong : tie.Need-add-block-wrong Inv-loop μ-loop
 add-block-wrong c = omega arith
 
-add-t16 : tie.Need-add-t16 Inv-loop μ-loop
-add-t16 c = omega arith
+add-p : tie.Need-add-p Inv-loop μ-loop
+add-p c = omega arith
 
 returns-2 : tie.Need-returns-2 Inv-loop μ-loop
 unfolding stageOf outcomeOf Option·elim
@@ -98,7 +98,7 @@ check-blocks-spec =
     array-copy-out-h
     add-block-wrong
     (λ c κs. tt)
-    add-t16
+    add-p
     returns-2
     add-i
     loop-less

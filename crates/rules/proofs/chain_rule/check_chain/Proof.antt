@@ -42,8 +42,8 @@ loop-holds c = (omega arith, omega arith, λ place e s. starts (asked _ place) (
 add-link-broken : tie.Need-add-link-broken Inv-loop μ-loop
 add-link-broken c = omega arith
 
-add-t15 : tie.Need-add-t15 Inv-loop μ-loop
-add-t15 c = omega arith
+add-p : tie.Need-add-p Inv-loop μ-loop
+add-p c = omega arith
 
 returns : tie.Need-returns Inv-loop μ-loop
 returns c =
@@ -101,7 +101,7 @@ check-chain-spec =
     (λ c κs. tt)
     add-link-broken
     (λ c κs. tt)
-    add-t15
+    add-p
     returns
     mul-headers
     array-set-from-headers

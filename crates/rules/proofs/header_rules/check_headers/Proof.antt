@@ -54,8 +54,8 @@ array-copy-out-h c = omega arith
 header-bad-requires : tie.Need-header-bad-requires Inv-loop2 μ-loop2 Inv-loop μ-loop
 header-bad-requires c κs = omega arith
 
-add-t16 : tie.Need-add-t16 Inv-loop2 μ-loop2 Inv-loop μ-loop
-add-t16 c = omega arith
+add-p : tie.Need-add-p Inv-loop2 μ-loop2 Inv-loop μ-loop
+add-p c = omega arith
 
 returns : tie.Need-returns Inv-loop2 μ-loop2 Inv-loop μ-loop
 unfolding stageOf
@@ -130,7 +130,7 @@ check-headers-spec =
     mul-h
     array-copy-out-h
     header-bad-requires
-    add-t16
+    add-p
     returns
     add-i
     loop2-less
