@@ -31,7 +31,7 @@ use Rattle.reader.proofs.Joined.{kept-of, refused-of}
 
 -- ---- the first headers of an array of them
 
-numbers-length : (a n : ℕ) → length (numbers a n) ≡ n
+pub numbers-length : (a n : ℕ) → length (numbers a n) ≡ n
 unfolding numbers
 numbers-length a Prim.Native.Nat.zero = refl
 numbers-length a (Prim.Native.Nat.suc n) = ap Prim.Native.Nat.suc (numbers-length (Prim.Native.Nat.suc a) n)

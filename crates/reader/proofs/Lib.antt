@@ -1,3 +1,6 @@
 pub mod Core
 pub mod Joined
 pub mod Verdicts
+pub mod Questions
+pub mod Written
+pub mod Answered

@@ -1,6 +1,6 @@
 -- What the core answers: the stage, and where every rule from 3 to 19 is kept the table and the headers; else blank ones.
 -- Assumes nothing.
-use Prim.Native.Nat.{ℕ}
+use Prim.Native.Nat.{ℕ, _+_, _*_}
 use mathlib.Core.List.{List, _++_}
 use lib.ListN.{replicate}
 use Rattle.pdi_spec.specs.Headers.{Table, Header}
@@ -52,3 +52,8 @@ readingOf (refused number p) f = refusedReading (Stage.Refused number p)
 
 unfoldable pub readingAnswer : File → Reading
 readingAnswer f = readingOf (verdict (readingRules ++ clashRules) f) f
+
+-- the number that a stage stands for in read's answer
+unfoldable pub stageAnswer : Stage → ℕ
+stageAnswer (Stage.Refused number p) = 64 * number + p
+stageAnswer Stage.Checked = 0
