@@ -119,7 +119,7 @@ fn ask_all(name: &[u8], image: &[u8], question: Question) {
 }
 
 // A case: its name, its image and what is asked.
-pub fn ask(name: &[u8], image: &Image, question: Question) {
+pub(crate) fn ask(name: &[u8], image: &Image, question: Question) {
     let length = question.length;
     ask_all(name, lent(image, length), question);
 }

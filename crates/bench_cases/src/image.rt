@@ -26,7 +26,7 @@ fn low(word: u32) -> u8 {
 }
 
 // Stores a little-endian word at a byte offset.
-pub fn store(image: &mut Image, at: usize, word: u32) {
+pub(crate) fn store(image: &mut Image, at: usize, word: u32) {
     if at < ROOM - 3 {
         image[at] = low(word);
         image[at + 1] = low(word / 0x100);
@@ -41,7 +41,7 @@ fn sum(image: &Image, at: usize) -> u32 {
 }
 
 // Puts right the checksum of the table or partition header at an offset.
-pub fn put_right(image: &mut Image, at: usize) {
+pub(crate) fn put_right(image: &mut Image, at: usize) {
     if at <= LENGTH {
         let word = sum(image, at);
         store(image, at + CHECKSUM, word);
@@ -49,7 +49,7 @@ pub fn put_right(image: &mut Image, at: usize) {
 }
 
 // Stores a word, and puts right the checksums of the table and of the first partition header.
-pub fn edit(image: &mut Image, at: usize, word: u32) {
+pub(crate) fn edit(image: &mut Image, at: usize, word: u32) {
     store(image, at, word);
     put_right(image, TABLE);
     put_right(image, HEADER);
@@ -87,7 +87,7 @@ fn store_data(image: &mut Image) {
 }
 
 // The bench image, with the checksums that document 01 states.
-pub fn bench() -> Image {
+pub(crate) fn bench() -> Image {
     let mut image = [0u8; ROOM];
     store_table(&mut image);
     store_header(&mut image);

@@ -20,7 +20,7 @@ fn wide(x: u32) -> u64
 }
 
 // 4 × the sum of the first n total lengths.
-pub fn billed(headers: [PartitionHeader; 32], n: usize) -> u64
+pub(crate) fn billed(headers: [PartitionHeader; 32], n: usize) -> u64
     requires { ⌜ n ≤ 32 ⌝ }
     ensures { λ r. ⌜ r ≡ 4 * sumOf (map (λ h. h .total) (map headerOf (take n headers))) ⌝ }
 {

@@ -84,7 +84,7 @@ fn check_all(image: &[u8], table: TableHeader, headers: [PartitionHeader; 32], n
     clashes::check_loads(headers, n)
 }
 
-pub fn check(image: &[u8], place: usize) -> Reading
+pub(crate) fn check(image: &[u8], place: usize) -> Reading
     ensures { λ r. ⌜ r ≡ readingAnswer (asked (now (image .entry)) place) ⌝ }
 {
     let first = rules::check_table(image, place);

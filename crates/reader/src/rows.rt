@@ -43,7 +43,7 @@ fn put_rows(image: &[u8], headers: [PartitionHeader; 32], n: usize, rows: &mut [
 }
 
 // The head and the rows. What comes after them is left as found.
-pub fn write(
+pub(crate) fn write(
     image: &[u8],
     table: TableHeader,
     headers: [PartitionHeader; 32],
