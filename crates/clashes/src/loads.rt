@@ -1,6 +1,5 @@
 // Rule 19: p is the smallest partition whose load range meets an earlier partition's.
 ghost use Prim.Native.Nat.{_≤_};
-ghost use mathlib.Core.Bool.{_&&_};
 ghost use mathlib.Core.List.{map};
 ghost use mathlib.Core.Path.{_≡_};
 ghost use lib.ListN.{take};

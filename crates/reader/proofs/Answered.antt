@@ -1,16 +1,14 @@
 -- Read's answer and the row buffer after it, one law for each way that `read` returns. Assumes nothing.
 use Prim.Native.Nat.{ℕ, _+_, _*_, _≤_, _<_}
-use native.Mathlib.Bridge.{le-prop}
 use native.Mathlib.Omega.{arith}
 use mathlib.Core.List.{List, _++_, map, List·Mem, mem-map-of-mem}
-use mathlib.Core.Path.{_≡_, refl, sym, _∙_, ap, ap₂, subst}
+use mathlib.Core.Path.{_≡_, sym, _∙_, ap, ap₂, subst}
 use lib.ListN.{length, take, drop}
-use Rattle.pdi_spec.specs.Lists.{numbers, sumOf}
-use Rattle.pdi_spec.specs.Headers.{Table, Header}
-use Rattle.pdi_spec.specs.File.{File, table, partitions, partitionNumbers, header}
-use Rattle.pdi_spec.specs.Verdict.{Rule, accepted, refused, verdict}
+use Rattle.pdi_spec.specs.Lists.{sumOf}
+use Rattle.pdi_spec.specs.File.{File, table, partitions, partitionNumbers}
+use Rattle.pdi_spec.specs.Verdict.{Rule, refused, verdict}
 use Rattle.pdi_spec.specs.RuleList.{readingRules, clashRules, rules, readRules}
-use Rattle.pdi_spec.specs.Answers.{answer, asked, billed, headAndRows, rowsAfter, readAnswer, readRows, billAnswer}
+use Rattle.pdi_spec.specs.Answers.{answer, asked, headAndRows, readAnswer, readRows, billAnswer}
 use Rattle.pdi_spec.specs.Laws.Plain.{read-numbers, buffer-p}
 use Rattle.pdi_spec.specs.Laws.Rows.{after-accepted, after-refused}
 use Rattle.pdi_spec.specs.Laws.Tests.{mem-numbers}

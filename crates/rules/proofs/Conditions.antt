@@ -4,7 +4,7 @@ use native.Mathlib.Numerals.{add-one}
 use native.Mathlib.Omega.{arith}
 use mathlib.Core.Bool.{Bool}
 use mathlib.Core.List.{List, _∷_}
-use mathlib.Core.Option.{Option, none, some, Option·elim}
+use mathlib.Core.Option.{none, some, Option·elim}
 use mathlib.Core.Path.{_≡_, refl, sym, _∙_, ap}
 use lib.ListN.{drop, getD}
 use lib.Seq.{drop-cons, getD-drop}
