@@ -11,6 +11,7 @@ ghost use Rattle.pdi_spec.specs.Ranges.{blockRanges, overlap};
 ghost use Rattle.ranges.specs.Range.{rangeOf};
 ghost use Rattle.rules.specs.Walks.{hashBlocksOf};
 use headers::Block;
+use headers::BootHeader;
 use headers::PartitionHeader;
 use headers::TableHeader;
 use ranges::Range;
@@ -21,11 +22,11 @@ pub struct RangeList {
 }
 
 // Which range of a partition is meant.
-pub const HEADER: u8 = 0;
+pub(crate) const HEADER: u8 = 0;
 
-pub const SPAN: u8 = 1;
+pub(crate) const SPAN: u8 = 1;
 
-pub const BODY: u8 = 2;
+pub(crate) const BODY: u8 = 2;
 
 // The range of a partition's header, span or body.
 fn part_range(h: PartitionHeader, part: u8) -> Range
@@ -72,7 +73,7 @@ fn with_table(list: RangeList, table: TableHeader) -> RangeList
 }
 
 // The boot header of a full image, the table with its optional data, the image headers.
-pub fn first_ranges(table: TableHeader) -> RangeList
+pub(crate) fn first_ranges(table: TableHeader) -> RangeList
     ensures { λ r. ⌜ Made r (firstRanges (tableOf table)) ⌝ }
 {
     let none = empty();
@@ -81,7 +82,7 @@ pub fn first_ranges(table: TableHeader) -> RangeList
             none,
             Range {
                 start: 0,
-                size: 4416,
+                size: BootHeader::SIZE as u64,
             },
         );
         return with_table(boot, table);
@@ -90,7 +91,12 @@ pub fn first_ranges(table: TableHeader) -> RangeList
 }
 
 // The list, and then one range of each of the first n partitions.
-pub fn with_parts(list: RangeList, headers: [PartitionHeader; 32], n: usize, part: u8) -> RangeList
+pub(crate) fn with_parts(
+    list: RangeList,
+    headers: [PartitionHeader; 32],
+    n: usize,
+    part: u8,
+) -> RangeList
     requires few { ⌜ n ≤ 32 ⌝ }
     requires room { ⌜ list .count + n ≤ 67 ⌝ }
     ensures { λ r. ⌜ Extends list r (map (partRange part) (map headerOf (take n headers))) ⌝ }
@@ -121,7 +127,7 @@ fn with_block(list: RangeList, b: Block) -> RangeList
 }
 
 // The table's hash block, then each partition's, where there is one.
-pub fn hash_blocks(table: TableHeader, headers: [PartitionHeader; 32], n: usize) -> RangeList
+pub(crate) fn hash_blocks(table: TableHeader, headers: [PartitionHeader; 32], n: usize) -> RangeList
     requires { ⌜ n ≤ 32 ⌝ }
     ensures { λ r. ⌜ Made r (hashBlocksOf (tableOf table) (map headerOf (take n headers))) ⌝ }
 {
@@ -138,7 +144,7 @@ pub fn hash_blocks(table: TableHeader, headers: [PartitionHeader; 32], n: usize)
 }
 
 // Some two ranges of the list clash; `equals` allows equal ones.
-pub fn clash_within(list: RangeList, equals: bool) -> bool
+pub(crate) fn clash_within(list: RangeList, equals: bool) -> bool
     requires { ⌜ list .count ≤ 67 ⌝ }
     ensures { λ r. ⌜ r ≡ anyPair (clashes equals) (rangesIn list) ⌝ }
 {
@@ -147,7 +153,7 @@ pub fn clash_within(list: RangeList, equals: bool) -> bool
 }
 
 // Some range of the first list overlaps one of the second.
-pub fn clash_between(a: RangeList, b: RangeList) -> bool
+pub(crate) fn clash_between(a: RangeList, b: RangeList) -> bool
     requires first { ⌜ a .count ≤ 67 ⌝ }
     requires second { ⌜ b .count ≤ 67 ⌝ }
     ensures { λ r. ⌜ r ≡ anyOf (λ x. anyOf (overlap x) (rangesIn b)) (rangesIn a) ⌝ }

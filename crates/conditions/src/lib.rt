@@ -15,18 +15,19 @@ ghost use Rattle.ranges.specs.Range.{rangeOf};
 use headers::Attributes;
 use headers::Block;
 use headers::BootHeader;
+use headers::HashEntry;
 use headers::PartitionHeader;
 use headers::TableHeader;
 use ranges::Range;
 
-// The bytes of the table, and of a partition header.
-const HEADER_SIZE: u64 = 128;
+// The sizes of the headers and of a hash block's entry, at the width that they are reckoned with here.
+const HEADER_SIZE: u64 = PartitionHeader::SIZE as u64;
 
-// The bytes of the boot header.
-const BOOT_SIZE: u64 = 4416;
+const TABLE_SIZE: u64 = TableHeader::SIZE as u64;
 
-// The bytes of a hash block's entry.
-const ENTRY_SIZE: u32 = 52;
+const BOOT_SIZE: u64 = BootHeader::SIZE as u64;
+
+const ENTRY_SIZE: u32 = HashEntry::SIZE as u32;
 
 // Words counted in bytes: the product may be over 2^32.
 fn in_bytes(words: u32) -> u64
@@ -88,7 +89,7 @@ pub fn table_range(place: usize) -> Range
 {
     Range {
         start: place as u64,
-        size: HEADER_SIZE,
+        size: TABLE_SIZE,
     }
 }
 
@@ -97,7 +98,7 @@ pub fn table_with_optional(t: TableHeader) -> Range
 {
     Range {
         start: t.place as u64,
-        size: HEADER_SIZE + in_bytes(t.optional_words),
+        size: TABLE_SIZE + in_bytes(t.optional_words),
     }
 }
 
@@ -168,7 +169,12 @@ pub fn boot_header_bad(image: &[u8], t: TableHeader, b: BootHeader) -> bool
     ((t.place as u64) < BOOT_SIZE)
         | (b.width_detection != 0xAA99_5566)
         | !b.identified
-        | (b.checksum != words::boot_checksum(image, 0x10, 1099))
+        | (b.checksum
+            != words::boot_checksum(
+                image,
+                BootHeader::CHECKSUMMED,
+                BootHeader::CHECKSUMMED_WORDS,
+            ))
         | !keys::zero_or_common(b.key)
         | !((t.key == 0) | (t.key == b.key))
         | (b.plm_length < 1)
@@ -195,7 +201,7 @@ pub fn image_headers_outside(image: &[u8], t: TableHeader) -> bool
 pub fn header_checksum_bad(image: &[u8], h: PartitionHeader) -> bool
     ensures { λ r. ⌜ r ≡ headerChecksumBad (now (image .entry)) (headerOf h) ⌝ }
 {
-    h.checksum != words::checksum(image, h.at, 31)
+    h.checksum != words::checksum(image, h.at, PartitionHeader::CHECKSUMMED_WORDS)
 }
 
 fn is_either(x: u32, a: u32, b: u32) -> bool

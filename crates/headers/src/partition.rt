@@ -70,6 +70,9 @@ impl PartitionHeader {
 
     pub const CHECKSUM: usize = 0x7C;
 
+    // The words from the first on that the checksum sums.
+    pub const CHECKSUMMED_WORDS: usize = 31;
+
     pub fn read(image: &[u8], at: usize) -> PartitionHeader
         ensures { λ r. ⌜ headerOf r ≡ headerFrom (now (image .entry)) at ⌝ }
     {

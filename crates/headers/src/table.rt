@@ -92,6 +92,9 @@ impl TableHeader {
 
     pub const CHECKSUM: usize = 0x7C;
 
+    // The words from the first on that the checksum sums.
+    pub const CHECKSUMMED_WORDS: usize = 31;
+
     pub fn read(image: &[u8], place: usize) -> TableHeader
         ensures { λ r. ⌜ tableOf r ≡ tableFrom (now (image .entry)) place ⌝ }
     {

@@ -19,7 +19,7 @@ use Rattle.reader.specs.Rows.{rowWith, rowFrom, rowsFrom, headFrom}
 -- ---- runs of stores
 
 -- a run, and then another right after it
-sets-append : (l xs ys : List ℕ) (i k : ℕ) → k ≡ i + length xs → sets (sets l i xs) k ys ≡ sets l i (xs ++ ys)
+pub sets-append : (l xs ys : List ℕ) (i k : ℕ) → k ≡ i + length xs → sets (sets l i xs) k ys ≡ sets l i (xs ++ ys)
 sets-append l [] ys i k e = let z : k ≡ i = omega arith in ap (λ (j : ℕ). sets l j ys) z
 sets-append l (x ∷ xs) ys i k e = sets-append (set l i x) xs ys (suc i) k (omega arith)
 

@@ -6,6 +6,7 @@ ghost use lib.ListN.{take};
 ghost use Rattle.headers.specs.Headers.{headerOf};
 ghost use Rattle.pdi_spec.specs.Answers.{billAnswer};
 ghost use Rattle.pdi_spec.specs.Lists.{sumOf};
+use crate::check::LONGEST;
 use crate::check::check;
 use headers::PartitionHeader;
 use rules::Stage;
@@ -38,7 +39,7 @@ pub(crate) fn billed(headers: [PartitionHeader; 32], n: usize) -> u64
 pub fn bill(image: &[u8], place: usize) -> u64
     ensures { λ r. ⌜ r ≡ billAnswer (now (image .entry)) place ⌝ }
 {
-    if 1_073_741_824 < image.len() {
+    if LONGEST < image.len() {
         return NOTHING;
     }
     let reading = check(image, place);

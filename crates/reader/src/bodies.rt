@@ -1,6 +1,7 @@
 // Body: the stored bytes of one partition of an accepted image.
 ghost use mathlib.Core.Path.{_≡_};
 ghost use Rattle.pdi_spec.specs.Answers.{bodyAnswer};
+use crate::check::LONGEST;
 use crate::check::check;
 use rules::Stage;
 
@@ -9,7 +10,7 @@ pub fn body<'a>(image: &'a [u8], place: usize, p: usize) -> &'a [u8]
     ensures { λ r. ⌜ now r ≡ bodyAnswer (now (image .entry)) place p ⌝ }
 {
     let last = image.len();
-    if 1_073_741_824 < last {
+    if LONGEST < last {
         return &image[last..];
     }
     let reading = check(image, place);

@@ -14,6 +14,9 @@ use headers::TableHeader;
 use rules::Stage;
 use rules::TableStage;
 
+// Rule 1: the longest image, in bytes.
+pub(crate) const LONGEST: usize = 1_073_741_824;
+
 // What the stages found. Where the image is refused, the table and the headers are blank.
 pub struct Reading {
     pub stage: Stage,

@@ -4,6 +4,7 @@ ghost use mathlib.Core.Path.{_≡_};
 ghost use Rattle.pdi_spec.specs.Answers.{readAnswer, readRows};
 ghost use Rattle.reader.specs.Core.{stageAnswer};
 use crate::billing::billed;
+use crate::check::LONGEST;
 use crate::check::check;
 use crate::rows::write;
 use rules::Stage;
@@ -23,12 +24,15 @@ fn answer_of(stage: Stage) -> u64
 pub fn read(image: &[u8], place: usize, rows: &mut [u64]) -> u64
     ensures { λ r. ⌜ (r ≡ readAnswer (now (image .entry)) place (now (rows .entry))) × (now (rows .exit) ≡ readRows (now (image .entry)) place (now (rows .entry))) ⌝ }
 {
-    if 1_073_741_824 < image.len() {
+    // Rule 1.
+    if LONGEST < image.len() {
         return 64;
     }
+    // Rule 2.
     if rows.len() < 260 {
         return 128;
     }
+    // Rules 3 to 19.
     let reading = check(image, place);
     let stage = reading.stage;
     let Stage::Checked = stage else {

@@ -16,7 +16,7 @@ use headers::TableHeader;
 fn table_checksum_wrong(image: &[u8], t: TableHeader) -> bool
     ensures { λ r. ⌜ r ≡ not (eqb (t .checksum) (checksum (now (image .entry)) (t .place) 31)) ⌝ }
 {
-    t.checksum != words::checksum(image, t.place, 31)
+    t.checksum != words::checksum(image, t.place, TableHeader::CHECKSUMMED_WORDS)
 }
 
 // Rule 8. A partial image has no boot header to read.
