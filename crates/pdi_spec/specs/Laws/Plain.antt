@@ -133,7 +133,7 @@ host-refused image place rows n =
     rw (t .2) refl
 
 -- the same of an accepted one
-read-verdict : (image : List ℕ) (place : ℕ) (rows : List ℕ) → readAnswer image place rows ≡ 0 → verdict (readRules (length rows)) (asked image place) ≡ accepted
+pub read-verdict : (image : List ℕ) (place : ℕ) (rows : List ℕ) → readAnswer image place rows ≡ 0 → verdict (readRules (length rows)) (asked image place) ≡ accepted
 unfolding readAnswer readRules
 read-verdict image place rows e = answer-accepted (readRules (length rows)) (asked image place) (buffer-positive 260 (length rows) (asked image place)) e
 
@@ -180,7 +180,7 @@ unfolding leBytes
 le-length zero number = refl
 le-length (suc n) number = ap suc (le-length n (number / 256))
 
-bytes-length : (xs : List ℕ) → length (flatMap (leBytes 8) xs) ≡ 8 * length xs
+pub bytes-length : (xs : List ℕ) → length (flatMap (leBytes 8) xs) ≡ 8 * length xs
 unfolding flatMap
 bytes-length [] = refl
 bytes-length (x ∷ xs) = length-append (leBytes 8 x) (flatMap (leBytes 8) xs) ∙ omega (arith, le-length 8 x, bytes-length xs)

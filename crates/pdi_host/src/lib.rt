@@ -1,0 +1,61 @@
+// The calls for C: read, bill and the length of a body, on numbers and byte slices. The row buffer lies in bytes, 8 to a number,
+// little-endian. A slice is a pointer and a length to C; include/pdi.h declares the calls.
+ghost use Prim.Native.Nat.{_≤_};
+ghost use mathlib.Core.List.{[], _∷_, flatMap};
+ghost use mathlib.Core.Path.{_≡_};
+ghost use lib.ListN.{length, take};
+ghost use lib.Seq.{sets};
+ghost use Rattle.pdi_spec.specs.Answers.{billAnswer, bodyAnswer, readAnswer};
+ghost use Rattle.pdi_spec.specs.Host.{hostAnswer, hostRows, leBytes};
+
+// Stores the first n numbers.
+fn put_numbers(rows: &mut [u8], numbers: &[u64], n: usize)
+    requires { ⌜ (n ≤ 260) × (n ≤ length (now numbers)) ⌝ }
+    ensures { λ _. ⌜ now (rows .exit) ≡ sets (now (rows .entry)) 0 (flatMap (leBytes 8) (take n (now (numbers .entry)))) ⌝ }
+{
+    let mut i: usize = 0;
+    while i < n {
+        words::put_u64(rows, 8 * i, numbers[i]);
+        i += 1;
+    }
+}
+
+// Rule 2: what read answers, lent a buffer that is too short as well. Rule 1 still comes before it.
+fn too_short(image: &[u8], place: usize) -> u64
+    ensures { λ r. ⌜ r ≡ readAnswer (now (image .entry)) place (0 ∷ []) ⌝ }
+{
+    let mut numbers = [0u64; 1];
+    reader::read(image, place, &mut numbers)
+}
+
+#[no_mangle]
+pub extern "C" fn pdi_read(image: &[u8], place: u64, rows: &mut [u8]) -> u64
+    ensures { λ r. ⌜ (r ≡ hostAnswer (now (image .entry)) place (now (rows .entry))) × (now (rows .exit) ≡ hostRows (now (image .entry)) place (now (rows .entry))) ⌝ }
+{
+    if rows.len() < 2080 {
+        return too_short(image, place as usize);
+    }
+    let mut numbers = [0u64; 260];
+    let answer = reader::read(image, place as usize, &mut numbers);
+    if answer == 0 {
+        let partitions = numbers[2] as usize;
+        put_numbers(rows, &numbers, 4 + 8 * partitions);
+    }
+    answer
+}
+
+#[no_mangle]
+pub extern "C" fn pdi_bill(image: &[u8], place: u64) -> u64
+    ensures { λ r. ⌜ r ≡ billAnswer (now (image .entry)) place ⌝ }
+{
+    reader::bill(image, place as usize)
+}
+
+// How long body's answer is.
+#[no_mangle]
+pub extern "C" fn pdi_body_length(image: &[u8], place: u64, p: u64) -> u64
+    ensures { λ r. ⌜ r ≡ length (bodyAnswer (now (image .entry)) place p) ⌝ }
+{
+    let body = reader::body(image, place as usize, p as usize);
+    body.len() as u64
+}
