@@ -3,12 +3,12 @@ use Prim.Native.Nat.{ℕ, _+_, _≤_, _<_}
 use native.Mathlib.Nat.{le-of-eq}
 use native.Mathlib.Numerals.{add-one}
 use native.Mathlib.Omega.{arith}
-use mathlib.Core.Bool.{true, false}
+use mathlib.Core.Bool.{Bool, true, false, cond}
 use mathlib.Core.List.{List, [], _∷_, _++_, map, flatMap, map-append, append-assoc, append-nil}
 use mathlib.Core.Path.{_≡_, refl, sym, _∙_, ap, subst}
 use lib.ListN.{length, take, set, getD, length-append, length-set}
 use borrow.Author.Tests.{eq-eqb, ne-eqb}
-use lib.Seq.{take-suc, take-suc-set}
+use lib.Seq.{take-suc, take-suc-set, take-set-le}
 use Rattle.pdi_spec.specs.Headers.{Block, Table, Header}
 use Rattle.pdi_spec.specs.Ranges.{Range, bootRange, blockRange, blockRanges}
 use Rattle.pdi_spec.specs.HashBlock.{noBlock}
@@ -101,6 +101,40 @@ pub block-one : (l m : RangeList) (r : code.Range) (b : Block) → l .count ≤ 
 unfolding blockRanges
 block-one l m r b h e k p =
     rw e (subst (λ (v : RangeList). Extends l v (blockRange b ∷ [])) (sym p) (extend-more l l r [] (blockRange b) h k (extend-none l)))
+
+-- how many ranges a block adds
+pub none-added : (b : Block) → noBlock b ≡ true → 0 ≡ length (blockRanges b)
+unfolding blockRanges
+none-added b e = rw e refl
+
+pub one-added : (b : Block) → noBlock b ≡ false → 1 ≡ length (blockRanges b)
+unfolding blockRanges
+one-added b e = rw e refl
+
+-- a range stored after the last one, and the count given
+abbrev pub stored : RangeList → code.Range → ℕ → RangeList
+stored m r n = record { ranges = set (m .ranges) (m .count) r; count = n }
+
+-- a block's range stored, and counted where there is a block
+pub extend-block : (l m : RangeList) (r : code.Range) (b : Block) (old : List Range) (k : ℕ) → m .count ≤ 66 → rangeOf r ≡ blockRange b
+    → k ≡ length (blockRanges b) → Extends l m old
+    → Extends l (stored m r (m .count + k)) (old ++ blockRanges b)
+unfolding blockRanges pushed Extends rangesIn
+extend-block l m r b old k h e = go (noBlock b)
+  where
+    go : (t : Bool) → k ≡ length (cond t [] (blockRange b ∷ [])) → Extends l m old → Extends l (stored m r (m .count + k)) (old ++ cond t [] (blockRange b ∷ []))
+    go true z ext xs made =
+        let was = ext xs made in
+        let same : m .count + k ≡ m .count = omega arith in
+        subst (λ (n : ℕ). Made (stored m r n) (xs ++ (old ++ []))) (sym same)
+        (subst (λ (ys : List Range). Made (stored m r (m .count)) (xs ++ ys)) (sym (append-nil old))
+        record {
+          holds = ap (map rangeOf) (take-set-le (m .count) (m .ranges) (m .count) r (le-of-eq refl)) ∙ was .holds;
+          counted = was .counted;
+          fits = was .fits;
+          room = length-set (m .ranges) (m .count) r ∙ was .room;
+        })
+    go false z ext xs made = subst (λ (n : ℕ). Extends l (stored m r n) (old ++ (blockRange b ∷ []))) (ap (λ (n : ℕ). m .count + n) (sym z)) (extend-more l m r old (blockRange b) h e ext) xs made
 
 pub pushed-count : (l m : RangeList) (r : code.Range) → m ≡ pushed l r → m .count ≤ l .count + 1
 unfolding pushed

@@ -3,7 +3,7 @@
 use Prim.Native.Nat.{ℕ, zero, suc, _+_, _-_, _≤_, _<_}
 use native.Mathlib.Numerals.{add-one}
 use native.Mathlib.Omega.{arith}
-use mathlib.Core.Bool.{Bool, true, false, _&&_, and-assoc}
+use mathlib.Core.Bool.{Bool, true, false, _&&_}
 use mathlib.Core.List.{List, [], _∷_, map}
 use mathlib.Core.Option.{none, some, Option·elim}
 use mathlib.Core.Path.{_≡_, refl, sym, _∙_, ap}
@@ -86,8 +86,22 @@ module _ (n : ℕ) (l : List PartitionHeader) (fits : n ≤ length l) where
   unfolding loadsOutcome outcomeOf stageOf Option·elim
   walked-some p e = rw e refl
 
--- what `both_meet` answers, by its three tests
-pub told : (h e : Header) {a b o : Bool} {r q : Range} → a ≡ hasLoadAddress (h .attributes) → b ≡ hasLoadAddress (e .attributes)
-    → r ≡ loadRangeOf h .addresses → q ≡ loadRangeOf e .addresses → o ≡ overlap r q → a && b && o ≡ bothMeet h e
-unfolding bothMeet meet
-told h e {a} {b} {o} p k x y z = rw (p, k, z, x, y) (and-assoc (hasLoadAddress (h .attributes)) (hasLoadAddress (e .attributes)) (overlap (loadRangeOf h .addresses) (loadRangeOf e .addresses)))
+-- what `both_meet` answers, where the ranges share an address and where they don't
+module _ (h e : Header) {o : Bool} {r q : Range} (x : r ≡ loadRangeOf h .addresses) (y : q ≡ loadRangeOf e .addresses) (z : o ≡ overlap r q) where
+  pub told-meet : o ≡ true → {a b : Bool} → a ≡ hasLoadAddress (h .attributes) → b ≡ hasLoadAddress (e .attributes) → a && b ≡ bothMeet h e
+  unfolding bothMeet meet
+  told-meet t p k = rw (p, k, ← x, ← y, ← z, t) (go (hasLoadAddress (h .attributes)) (hasLoadAddress (e .attributes)))
+    where
+      go : (a b : Bool) → a && b ≡ a && (b && true)
+      go true true = refl
+      go true false = refl
+      go false b = refl
+
+  pub told-apart : o ≡ false → false ≡ bothMeet h e
+  unfolding bothMeet meet
+  told-apart n = rw (← x, ← y, ← z, n) (go (hasLoadAddress (h .attributes)) (hasLoadAddress (e .attributes)))
+    where
+      go : (a b : Bool) → false ≡ a && (b && false)
+      go true true = refl
+      go true false = refl
+      go false b = refl

@@ -2,7 +2,7 @@
 ghost use Prim.Native.Nat.{_+_, _≤_};
 ghost use mathlib.Core.List.{[], map};
 ghost use mathlib.Core.Path.{_≡_};
-ghost use lib.ListN.{take};
+ghost use lib.ListN.{length, take};
 ghost use Rattle.clashes.specs.Lists.{Extends, Made, firstRanges, partRange, pushed, rangesIn, tableRanges};
 ghost use Rattle.headers.specs.Headers.{blockOf, headerOf, tableOf};
 ghost use Rattle.pairs.specs.Clashes.{clashes};
@@ -126,7 +126,15 @@ fn with_block(list: RangeList, b: Block) -> RangeList
     push(list, conditions::block_range(b))
 }
 
-// The table's hash block, then each partition's, where there is one.
+// How many ranges a hash block adds.
+fn blocks_in(b: Block) -> usize
+    ensures { λ r. ⌜ (r ≡ length (blockRanges (blockOf b))) × (r ≤ 1) ⌝ }
+{
+    if conditions::no_block(b) { 0 } else { 1 }
+}
+
+// The table's hash block, then each partition's, where there is one. A range is stored in any case: where it isn't counted, the next one
+// takes its place.
 pub(crate) fn hash_blocks(table: TableHeader, headers: [PartitionHeader; 32], n: usize) -> RangeList
     requires { ⌜ n ≤ 32 ⌝ }
     ensures { λ r. ⌜ Made r (hashBlocksOf (tableOf table) (map headerOf (take n headers))) ⌝ }
@@ -137,7 +145,9 @@ pub(crate) fn hash_blocks(table: TableHeader, headers: [PartitionHeader; 32], n:
     while i < n {
         let h = headers[i];
         let b = h.block;
-        list = with_block(list, b);
+        let at = list.count;
+        list.ranges[at] = conditions::block_range(b);
+        list.count = at + blocks_in(b);
         i += 1;
     }
     list

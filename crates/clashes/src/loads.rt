@@ -10,13 +10,15 @@ ghost use Rattle.clashes.specs.Lists.{bothMeet};
 use headers::PartitionHeader;
 use rules::Stage;
 
-// Both have a load address, and their load ranges share an address.
+// Both have a load address, and their load ranges share an address. The ranges come first: they are seldom found to meet.
 fn both_meet(h: PartitionHeader, e: PartitionHeader) -> bool
     ensures { λ r. ⌜ r ≡ bothMeet (headerOf h) (headerOf e) ⌝ }
 {
-    conditions::has_load_address(h.attributes)
-        & conditions::has_load_address(e.attributes)
-        & ranges::overlap(conditions::load_range(h), conditions::load_range(e))
+    if ranges::overlap(conditions::load_range(h), conditions::load_range(e)) {
+        return conditions::has_load_address(h.attributes)
+            & conditions::has_load_address(e.attributes);
+    }
+    false
 }
 
 pub fn check_loads(headers: [PartitionHeader; 32], n: usize) -> Stage

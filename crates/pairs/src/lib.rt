@@ -1,9 +1,10 @@
 // Whether some two ranges clash: of one list, or of two. A list is the first n of an array of 67, all that rule 18 ever compares: the
 // boot header, the table, the image headers, 32 partition headers and 32 spans.
 use ranges::Range;
+use ranges::last;
 use ranges::overlap;
 use ranges::same;
-ghost use Prim.Native.Nat.{_≤_};
+ghost use Prim.Native.Nat.{_+_, _-_, _≤_, min};
 ghost use mathlib.Core.List.{map};
 ghost use mathlib.Core.Path.{_≡_};
 ghost use lib.ListN.{take};
@@ -25,6 +26,17 @@ pub fn clash(a: Range, b: Range, equals: bool) -> bool
     false
 }
 
+// The same, where the last number of `a` is known. Most ranges of an image lie in order, and then one comparison tells.
+fn clash_after(a: Range, end: u64, b: Range, equals: bool) -> bool
+    requires { ⌜ end ≡ min (a .start + (a .size - 1)) 0xFFFF_FFFF_FFFF_FFFF ⌝ }
+    ensures { λ r. ⌜ r ≡ clashes equals (rangeOf a) (rangeOf b) ⌝ }
+{
+    if end < b.start {
+        return false;
+    }
+    clash(a, b, equals)
+}
+
 // Some two of the first n clash.
 pub fn any_clash(list: [Range; 67], n: usize, equals: bool) -> bool
     requires { ⌜ n ≤ 67 ⌝ }
@@ -33,10 +45,11 @@ pub fn any_clash(list: [Range; 67], n: usize, equals: bool) -> bool
     let mut i: usize = 0;
     while i < n {
         let a = list[i];
+        let end = last(a);
         let mut j: usize = i + 1;
         while j < n {
             let b = list[j];
-            if clash(a, b, equals) {
+            if clash_after(a, end, b, equals) {
                 return true;
             }
             j += 1;
@@ -55,10 +68,11 @@ pub fn any_crossing(blocks: [Range; 67], m: usize, list: [Range; 67], n: usize) 
     let mut i: usize = 0;
     while i < m {
         let a = blocks[i];
+        let end = last(a);
         let mut j: usize = 0;
         while j < n {
             let b = list[j];
-            if overlap(a, b) {
+            if clash_after(a, end, b, false) {
                 return true;
             }
             j += 1;

@@ -19,6 +19,10 @@ pub overlap-told : (a b : Range) (t : Bool) → Tells (max (a .start) (b .start)
 unfolding overlap
 overlap-told a b = told (max (a .start) (b .start)) (min (endOf a) (endOf b))
 
+pub apart : (a b : Range) → min (endOf a) (endOf b) ≤ max (a .start) (b .start) → false ≡ overlap a b
+unfolding overlap
+apart a b h = sym (le-ltb (max (a .start) (b .start)) (min (endOf a) (endOf b)) h)
+
 pub past-told : (limit : ℕ) (a : Range) (t : Bool) → Tells limit (endOf a) t → t ≡ past limit a
 unfolding past
 past-told limit a = told limit (endOf a)

@@ -1,4 +1,5 @@
 // Ranges of numbers, as positions of the image or addresses. A range's end may be over 2^64, so no function adds start and size.
+ghost use Prim.Native.Nat.{_+_, _-_, min};
 ghost use mathlib.Core.Path.{_≡_};
 ghost use Rattle.pdi_spec.specs.Ranges.{addressSpace, overlap, past, sameRange};
 ghost use Rattle.ranges.specs.Range.{rangeOf};
@@ -14,10 +15,26 @@ pub fn overlap(a: Range, b: Range) -> bool
     ensures { λ r. ⌜ r ≡ overlap (rangeOf a) (rangeOf b) ⌝ }
 {
     if a.start <= b.start {
-        b.start - a.start < a.size && 0 < b.size
-    } else {
-        a.start - b.start < b.size && 0 < a.size
+        if a.size <= b.start - a.start {
+            return false;
+        }
+        return 0 < b.size;
     }
+    if b.size <= a.start - b.start {
+        return false;
+    }
+    0 < a.size
+}
+
+// The last number of a range, or its start where it is empty; the greatest u64 where that is less.
+pub fn last(a: Range) -> u64
+    ensures { λ r. ⌜ r ≡ min (a .start + (a .size - 1)) 0xFFFF_FFFF_FFFF_FFFF ⌝ }
+{
+    let after = if a.size == 0 { 0 } else { a.size - 1 };
+    if 0xFFFF_FFFF_FFFF_FFFF - a.start < after {
+        return 0xFFFF_FFFF_FFFF_FFFF;
+    }
+    a.start + after
 }
 
 pub fn same(a: Range, b: Range) -> bool

@@ -18,12 +18,12 @@ abbrev none : Range
 none = record { start = 0; size = 0 }
 
 abbrev Inv-loop2 : tie.InvT-loop2
-Inv-loop2 n equals list i a j₀ j =
+Inv-loop2 n equals list i a end j₀ j =
     (i < n) × (j ≤ n) × (n ≤ length list) × (anyPair (clashes equals) (firsts rangeOf n list) ≡ anyPair (clashes equals) (drop i (firsts rangeOf n list)))
     × (anyOf (clashes equals (rangeOf a)) (drop (i + 1) (firsts rangeOf n list)) ≡ anyOf (clashes equals (rangeOf a)) (drop j (firsts rangeOf n list)))
 
 abbrev μ-loop2 : tie.MeasureT-loop2
-μ-loop2 n equals list i a j₀ j = n - j
+μ-loop2 n equals list i a end j₀ j = n - j
 
 abbrev Inv-loop : tie.InvT-loop
 Inv-loop n equals list i₀ i =
@@ -41,11 +41,14 @@ mul-a c = omega arith
 array-copy-out-a : tie.Need-array-copy-out-a Inv-loop2 μ-loop2 Inv-loop μ-loop
 array-copy-out-a c = omega arith
 
+last-requires : tie.Need-last-requires Inv-loop2 μ-loop2 Inv-loop μ-loop
+last-requires c κs = search needs
+
 add-j : tie.Need-add-j Inv-loop2 μ-loop2 Inv-loop μ-loop
 add-j c = omega arith
 
 loop2-holds : tie.Need-loop2-holds Inv-loop2 μ-loop2 Inv-loop μ-loop
-loop2-holds c = (omega arith, omega arith, omega arith, c .before .before .loop .inv .2, refl)
+loop2-holds c = (omega arith, omega arith, omega arith, c .before .before .before .loop .inv .2, refl)
 
 mul-b : tie.Need-mul-b Inv-loop2 μ-loop2 Inv-loop μ-loop
 mul-b c = omega arith
@@ -53,18 +56,18 @@ mul-b c = omega arith
 array-copy-out-b : tie.Need-array-copy-out-b Inv-loop2 μ-loop2 Inv-loop μ-loop
 array-copy-out-b c = omega arith
 
-clash-requires : tie.Need-clash-requires Inv-loop2 μ-loop2 Inv-loop μ-loop
-clash-requires c κs = search needs
+clash-after-requires : tie.Need-clash-after-requires Inv-loop2 μ-loop2 Inv-loop μ-loop
+clash-after-requires c κs = c .before .before .before .last .ensures
 
 returns : tie.Need-returns Inv-loop2 μ-loop2 Inv-loop μ-loop
 returns c =
-    let s = c .before .before .before .before .before .before .before .before in
-    let i = c .before .before .before .before .before .before .before .loop .i in
+    let s = c .before .before .before .before .before .before .before .before .before in
+    let i = c .before .before .before .before .before .before .before .before .loop .i in
     let w = c .before .before .before .before .loop2 in
     sym
     (w .inv .3
     ∙ pair-found rangeOf (s .args .n) (s .args .t1) (clashes (s .args .equals)) (w .inv .2) i none (w .inv .0)
-    (w .inv .4 ∙ any-found rangeOf (s .args .n) (s .args .t1) _ (w .inv .2) (w .j) none (omega arith) (sym (c .before .clash .ensures) ∙ c .if1 .taken)))
+    (w .inv .4 ∙ any-found rangeOf (s .args .n) (s .args .t1) _ (w .inv .2) (w .j) none (omega arith) (sym (c .before .clash-after .ensures) ∙ c .if1 .taken)))
 
 add-j-2 : tie.Need-add-j-2 Inv-loop2 μ-loop2 Inv-loop μ-loop
 add-j-2 c = omega arith
@@ -74,13 +77,13 @@ loop2-less c = omega arith
 
 loop2-again : tie.Need-loop2-again Inv-loop2 μ-loop2 Inv-loop μ-loop
 loop2-again c =
-    let s = c .before .before .before .before .before .before .before .before in
+    let s = c .before .before .before .before .before .before .before .before .before in
     let w = c .before .before .before .before .loop2 in (
       w .inv .0,
       omega arith,
       w .inv .2,
       w .inv .3,
-      w .inv .4 ∙ any-next rangeOf (s .args .n) (s .args .t1) _ (w .inv .2) (w .j) none (omega arith) (sym (c .before .clash .ensures) ∙ c .if1 .left),
+      w .inv .4 ∙ any-next rangeOf (s .args .n) (s .args .t1) _ (w .inv .2) (w .j) none (omega arith) (sym (c .before .clash-after .ensures) ∙ c .if1 .left),
     )
 
 add-i : tie.Need-add-i Inv-loop2 μ-loop2 Inv-loop μ-loop
@@ -91,8 +94,8 @@ loop-less c = omega arith
 
 loop-again : tie.Need-loop-again Inv-loop2 μ-loop2 Inv-loop μ-loop
 loop-again c =
-    let s = c .before .before .before .before .before in
-    let i = c .before .before .before .before .loop .i in
+    let s = c .before .before .before .before .before .before in
+    let i = c .before .before .before .before .before .loop .i in
     let w = c .before .loop2 in (
       omega arith,
       w .inv .2,
@@ -118,11 +121,12 @@ any-clash-spec =
     loop-holds
     mul-a
     array-copy-out-a
+    last-requires
     add-j
     loop2-holds
     mul-b
     array-copy-out-b
-    clash-requires
+    clash-after-requires
     returns
     add-j-2
     loop2-less

@@ -9,7 +9,7 @@ use Rattle.pdi_spec.specs.Headers.{Header}
 use Rattle.pdi_spec.specs.Ranges.{blockRanges}
 use Rattle.headers.specs.Headers.{headerOf}
 use Rattle.clashes.specs.Lists.{Extends}
-use Rattle.clashes.proofs.Made.{extend-none, extend-again, blocks-more, blocks-made}
+use Rattle.clashes.proofs.Made.{extend-none, extend-block, stored, blocks-more, blocks-made}
 use Rattle.clashes.proofs.list.hash_blocks.Statement.{statement}
 use Rattle.clashes.proofs.list.hash_blocks.Tie as tie
 
@@ -37,8 +37,20 @@ mul-h c = omega arith
 array-copy-out-h : tie.Need-array-copy-out-h Inv-loop μ-loop
 array-copy-out-h c = omega arith
 
-with-block-requires-2 : tie.Need-with-block-requires-2 Inv-loop μ-loop
-with-block-requires-2 c κs = omega arith
+block-range-requires : tie.Need-block-range-requires Inv-loop μ-loop
+block-range-requires c κs = search needs
+
+mul-t13 : tie.Need-mul-t13 Inv-loop μ-loop
+mul-t13 c = omega arith
+
+element-set-from-list : tie.Need-element-set-from-list Inv-loop μ-loop
+element-set-from-list c = omega arith
+
+blocks-in-requires : tie.Need-blocks-in-requires Inv-loop μ-loop
+blocks-in-requires c κs = search needs
+
+add-list : tie.Need-add-list Inv-loop μ-loop
+add-list c = omega (arith, c .blocks-in .ensures .1)
 
 add-i : tie.Need-add-i Inv-loop μ-loop
 add-i c = omega arith
@@ -48,14 +60,14 @@ loop-less c = omega arith
 
 loop-again : tie.Need-loop-again Inv-loop μ-loop
 loop-again c =
-    let s = c .before .before .before .before .before .before .before in
-    let l = c .before .before .before .before .loop in (
+    let s = c .before .before .before .before .before .before .before .before in
+    let l = c .before .before .before .before .before .loop in (
       omega arith,
       l .inv .1,
       l .inv .2,
-      omega (arith, c .with-block2 .ensures .1),
-      subst (λ xs. Extends (c .before .before .before .before .before .with-block .result) (c .with-block2 .result) xs) (sym (blocks-more headerOf (s .args .t2) (l .i) _ (omega arith)))
-          (extend-again _ _ _ _ _ (l .inv .4) (c .with-block2 .ensures .0)),
+      omega (arith, c .blocks-in .ensures .1),
+      subst (λ xs. Extends (c .before .before .before .before .before .before .with-block .result) (stored (l .list) (c .before .block-range .result) (l .list .count + c .blocks-in .result)) xs) (sym (blocks-more headerOf (s .args .t2) (l .i) _ (omega arith)))
+          (extend-block _ (l .list) _ _ _ _ (omega arith) (c .before .block-range .ensures) (c .blocks-in .ensures .0) (l .inv .4)),
     )
 
 returns : tie.Need-returns Inv-loop μ-loop
@@ -77,7 +89,11 @@ hash-blocks-spec =
     loop-holds
     mul-h
     array-copy-out-h
-    with-block-requires-2
+    block-range-requires
+    mul-t13
+    element-set-from-list
+    blocks-in-requires
+    add-list
     add-i
     loop-less
     loop-again
