@@ -1,12 +1,60 @@
-# make run: proves and builds the program, and runs it on an image. `IMAGE` is any image of at most 65,527 bytes, `PLACE` its table place.
-# make test: the gate. It proves every crate from nothing, tries every must-fail edit and runs every program.
+# make run: proves and builds the reader and the command, and lists an image. `IMAGE` is any image, `PLACE` its table place, or auto.
+# make test: the gate. Its last line is 'N passed, 0 failed'. `SEED` and `IMAGES` are those of the generated images.
+# make cli: the command alone. make install PREFIX=..: command, header, archive, pkg-config file, man page.
 IMAGE = examples/bench.pdi
-PLACE = 0
+PLACE = auto
+SEED = 20240229
+IMAGES = 200000
+PREFIX = /usr/local
+DESTDIR =
+CC = gcc
+RUSTC = rustc
 
-.PHONY: run test
-run:
-	@rt check pdi >&2
-	@scripts/envelope "$(IMAGE)" "$(PLACE)" >target/input && target/bin/pdi <target/input
+ARCHIVE = target/staticlib/libpdi_host.a
+PROVED := $(shell find crates -name '*.rt' -o -name '*.antt')
+CLI_VERSION := $(shell cat cli/VERSION)
+CLI_SOURCES := $(wildcard cli/*.c)
+CLI_INPUTS := $(CLI_SOURCES) $(wildcard cli/*.h) include/pdi.h cli/VERSION $(ARCHIVE)
+CLI_FLAGS = -std=c11 -D_XOPEN_SOURCE=700 -D_FILE_OFFSET_BITS=64 -DFOLIOBRIAR_VERSION='"$(CLI_VERSION)"' -Iinclude \
+	-Wall -Wextra -Werror -pedantic -Wconversion -Wshadow
+OUTSIDE_FLAGS = --edition 2021 -C opt-level=3 -D warnings -L target/staticlib -l static=pdi_host
+
+.PHONY: run test cli cli-checked outside install uninstall
+run: target/cli/foliobriar
+	@target/cli/foliobriar list "$(IMAGE)" --place "$(PLACE)"
 
 test:
-	rt ci
+	@SEED="$(SEED)" IMAGES="$(IMAGES)" scripts/test
+
+cli: target/cli/foliobriar
+cli-checked: target/cli-checked/foliobriar
+outside: target/outside/outside
+
+$(ARCHIVE): crates.txt $(PROVED)
+	rt staticlib pdi_host >&2
+
+target/cli/foliobriar: $(CLI_INPUTS)
+	@mkdir -p $(@D)
+	$(CC) $(CLI_FLAGS) -O2 $(CFLAGS) $(CLI_SOURCES) $(ARCHIVE) $(LDFLAGS) -o $@
+
+target/cli-checked/foliobriar: $(CLI_INPUTS)
+	@mkdir -p $(@D)
+	$(CC) $(CLI_FLAGS) -O1 -g -fsanitize=address,undefined -fno-sanitize-recover=all $(CLI_SOURCES) $(ARCHIVE) -o $@
+
+target/outside/outside: $(wildcard tests/outside/*.rs) $(ARCHIVE)
+	@mkdir -p $(@D)
+	$(RUSTC) $(OUTSIDE_FLAGS) -o $@ tests/outside/main.rs
+
+install: target/cli/foliobriar
+	install -d "$(DESTDIR)$(PREFIX)/bin" "$(DESTDIR)$(PREFIX)/include" "$(DESTDIR)$(PREFIX)/lib/pkgconfig" \
+		"$(DESTDIR)$(PREFIX)/share/man/man1"
+	install -m 755 target/cli/foliobriar "$(DESTDIR)$(PREFIX)/bin/foliobriar"
+	install -m 644 include/pdi.h "$(DESTDIR)$(PREFIX)/include/pdi.h"
+	install -m 644 $(ARCHIVE) "$(DESTDIR)$(PREFIX)/lib/libpdi_host.a"
+	install -m 644 cli/foliobriar.1 "$(DESTDIR)$(PREFIX)/share/man/man1/foliobriar.1"
+	sed -e 's|@PREFIX@|$(PREFIX)|' -e 's|@VERSION@|$(CLI_VERSION)|' cli/pdi.pc.in >target/cli/pdi.pc
+	install -m 644 target/cli/pdi.pc "$(DESTDIR)$(PREFIX)/lib/pkgconfig/pdi.pc"
+
+uninstall:
+	rm -f "$(DESTDIR)$(PREFIX)/bin/foliobriar" "$(DESTDIR)$(PREFIX)/include/pdi.h" "$(DESTDIR)$(PREFIX)/lib/libpdi_host.a" \
+		"$(DESTDIR)$(PREFIX)/lib/pkgconfig/pdi.pc" "$(DESTDIR)$(PREFIX)/share/man/man1/foliobriar.1"

@@ -14,7 +14,7 @@
 extern "C" {
 #endif
 
-/* Why an image is refused: the number of the first rule it breaks. docs/RULES.md has each in plain words. */
+/* Why an image is refused: the number of the first rule it breaks. `foliobriar explain` has each in plain words. */
 enum pdi_refusal {
     PDI_ACCEPTED = 0,
     PDI_IMAGE_TOO_LONG = 1,      /* over PDI_LONGEST_IMAGE bytes */
@@ -30,8 +30,8 @@ enum pdi_refusal {
     PDI_PARTITION_CHECKSUM = 11,
     PDI_PARTITION_ATTRIBUTES = 12,
     PDI_PARTITION_KEY = 13,
-    PDI_PARTITION_LENGTHS = 14,
-    PDI_PARTITION_SPAN = 15,
+    PDI_PARTITION_LENGTHS = 14,  /* of the data, of the key or of the signature */
+    PDI_PARTITION_SPAN = 15,     /* the data, or the 48 bytes of their checksum, pass the image */
     PDI_LOAD_ADDRESS = 16,
     PDI_HASH_BLOCK = 17,
     PDI_STORED_CLASH = 18,
@@ -91,7 +91,7 @@ static inline uint64_t pdi_row_number(const uint8_t *rows, size_t i)
     return value;
 }
 
-/* Field `field` of the row of partition p, counted from 1, in a buffer that pdi_read has filled. */
+/* A field of the row of partition p, from 1 to the head's PDI_PARTITIONS, in a buffer that pdi_read has filled. */
 static inline uint64_t pdi_row_field(const uint8_t *rows, unsigned p, enum pdi_row field)
 {
     return pdi_row_number(rows, PDI_HEAD + (size_t)PDI_ROW * (p - 1u) + (size_t)field);

@@ -1,0 +1,177 @@
+//! The outline's bench image and every case listed with it, starred or not, with the answers printed there.
+//!
+//! The rows of accepted cases are those printed, with the numbers changed that the edit changes.
+
+use crate::archive::Subject;
+use crate::fields::{get, partition, put, put_checksum_right, table, BLOCK_LENGTH, BLOCK_OFFSET, CHECKSUM};
+
+const ROWS: usize = 2080;
+const HEADER: usize = 192;
+const SECOND_HEADER: usize = 336;
+
+pub struct Case {
+    pub name: &'static str,
+    image: Vec<u8>,
+    place: u64,
+    row_bytes: usize,
+    /// Number and p.
+    answer: (u64, u64),
+    /// The rows of an acceptance.
+    rows: Vec<u64>,
+}
+
+/// The bench image, 336 bytes, with the checksums that its other words give.
+pub fn bench_image() -> Vec<u8> {
+    let mut image = vec![0; 336];
+    let words = [(table::VERSION, 0x0001_0000), (table::IMAGES, 1), (table::IMAGE_HEADERS, 32), (table::PARTITIONS, 1)];
+    let more = [(table::FIRST_HEADER, 48), (table::KIND, u32::from_le_bytes(*b"PPDI")), (table::SIZES, 0x0020_1020)];
+    words.into_iter().chain(more).for_each(|(field, value)| put(&mut image, field, value));
+    put_checksum_right(&mut image, 0);
+    let header = [(partition::E, 4), (partition::U, 4), (partition::T, 4), (partition::LOAD, 0x0010_0000)];
+    edit(&mut image, HEADER, &header);
+    edit(&mut image, HEADER, &[(partition::D, 80), (partition::ATTRIBUTES, 0x0400_0001)]);
+    image[320..].iter_mut().zip(0..).for_each(|(byte, value)| *byte = value);
+    image
+}
+
+/// Whether the two checksums printed in the outline are those of its bench image.
+pub fn checksums_as_printed() -> bool {
+    let image = bench_image();
+    get(&image, CHECKSUM) == 0x4965_60C2 && get(&image, HEADER + CHECKSUM) == 0x0410_005D
+}
+
+pub fn edit(image: &mut [u8], header: usize, edits: &[(usize, u32)]) {
+    edits.iter().for_each(|&(field, value)| put(image, header + field, value));
+    put_checksum_right(image, header);
+}
+
+fn printed_rows() -> Vec<u64> {
+    vec![2, 1, 1, 16, 320, 16, 16, 1048576, 0, 0, 0, 67108865]
+}
+
+fn case(name: &'static str, image: Vec<u8>, place: u64, answer: (u64, u64), rows: Vec<u64>) -> Case {
+    Case { name, image, place, row_bytes: ROWS, answer, rows }
+}
+
+/// The bench image with some words of its table or its partition header edited, refused.
+fn refused(name: &'static str, header: usize, edits: &[(usize, u32)], number: u64, p: u64) -> Case {
+    let mut image = bench_image();
+    edit(&mut image, header, edits);
+    case(name, image, 0, (number, p), Vec::new())
+}
+
+/// The same, accepted, with some of the printed numbers changed.
+fn accepted(name: &'static str, edits: &[(usize, u32)], changes: &[(usize, u64)]) -> Case {
+    let mut image = bench_image();
+    edit(&mut image, HEADER, edits);
+    let mut rows = printed_rows();
+    changes.iter().for_each(|&(i, number)| rows[i] = number);
+    case(name, image, 0, (0, 0), rows)
+}
+
+pub fn cases() -> Vec<Case> {
+    let mut all = place_cases();
+    all.extend(word_cases());
+    all.extend(load_cases());
+    all.extend(added_cases());
+    all
+}
+
+fn place_cases() -> Vec<Case> {
+    let image = bench_image;
+    vec![
+        case("as given", image(), 0, (0, 0), printed_rows()),
+        case("empty image", Vec::new(), 0, (3, 0), Vec::new()),
+        case("place 2", image(), 2, (3, 0), Vec::new()),
+        case("place 208", image(), 208, (4, 0), Vec::new()),
+        case("place 212", image(), 212, (3, 0), Vec::new()),
+        Case { row_bytes: 8 * 259, ..case("rows of 259 and place 2", image(), 2, (2, 0), Vec::new()) },
+    ]
+}
+
+fn word_cases() -> Vec<Case> {
+    use partition::{ATTRIBUTES, D, KEY, NEXT, T, U};
+    vec![
+        refused("partitions 0", 0, &[(table::PARTITIONS, 0)], 6, 0),
+        refused("partitions 33", 0, &[(table::PARTITIONS, 33)], 6, 0),
+        refused("table key 0x5C3CA5A3", 0, &[(table::KEY, 0x5C3C_A5A3)], 7, 0),
+        refused("next 48", HEADER, &[(NEXT, 48)], 10, 1),
+        refused("attribute type 0", HEADER, &[(ATTRIBUTES, 0x0000_0001)], 12, 1),
+        accepted("attributes 0x0400C001", &[(ATTRIBUTES, 0x0400_C001)], &[(11, 0x0400_C001)]),
+        refused("key 0xA5C3C5A4", HEADER, &[(KEY, 0xA5C3_C5A4)], 13, 1),
+        accepted("key 0xC3A5C573", &[(KEY, 0xC3A5_C573)], &[(9, 0xC3A5_C573)]),
+        refused("U = 5", HEADER, &[(U, 5)], 14, 1),
+        refused("T = 5", HEADER, &[(T, 5)], 15, 1),
+        refused("T = 0x40000000", HEADER, &[(T, 0x4000_0000)], 15, 1),
+        refused("D = 79", HEADER, &[(D, 79)], 18, 0),
+    ]
+}
+
+fn load_cases() -> Vec<Case> {
+    use partition::{ATTRIBUTES, LOAD};
+    const HIGH: usize = LOAD + 4;
+    let ones = u32::MAX;
+    vec![
+        refused("type 2, load 0x00100000", HEADER, &[(ATTRIBUTES, 0x0200_0001)], 16, 1),
+        accepted(
+            "type 2, both halves 0xFFFFFFFF",
+            &[(ATTRIBUTES, 0x0200_0001), (LOAD, ones), (HIGH, ones)],
+            &[(7, u64::MAX), (11, 0x0200_0001)],
+        ),
+        accepted("load 0xFFFFFFFFFFFFFFF0", &[(LOAD, 0xFFFF_FFF0), (HIGH, ones)], &[(7, 0xFFFF_FFFF_FFFF_FFF0)]),
+        refused("load 0xFFFFFFFFFFFFFFF1", HEADER, &[(LOAD, 0xFFFF_FFF1), (HIGH, ones)], 16, 1),
+    ]
+}
+
+/// The cases that add a hash block or a second partition.
+fn added_cases() -> Vec<Case> {
+    let block = |index: u32, length: u32| {
+        let mut image = bench_image();
+        image.resize(336 + 64, 0);
+        put(&mut image, 336, index);
+        edit(&mut image, HEADER, &[(BLOCK_LENGTH, length), (BLOCK_OFFSET, 84)]);
+        image
+    };
+    let second = |load: u32| {
+        let mut image = bench_image();
+        image.resize(468, 0);
+        edit(&mut image, 0, &[(table::PARTITIONS, 2)]);
+        edit(&mut image, HEADER, &[(partition::NEXT, 84)]);
+        edit(&mut image, SECOND_HEADER, &[(partition::E, 1), (partition::U, 1), (partition::T, 1), (partition::LOAD, load)]);
+        edit(&mut image, SECOND_HEADER, &[(partition::D, 116), (partition::ATTRIBUTES, 0x0400_0001)]);
+        image
+    };
+    let mut with_entry = printed_rows();
+    with_entry[10] = 336;
+    let mut with_second = printed_rows();
+    with_second[2..4].copy_from_slice(&[2, 20]);
+    with_second.extend([464, 4, 4, 0x0010_0010, 0, 0, 0, 67108865]);
+    vec![
+        case("block at word 84, index 1", block(1, 64), 0, (0, 0), with_entry),
+        case("block at word 84, index 2", block(2, 64), 0, (17, 1), Vec::new()),
+        case("block at word 84, length 52", block(1, 52), 0, (17, 1), Vec::new()),
+        case("second partition at 0x00100010", second(0x0010_0010), 0, (0, 0), with_second),
+        case("second partition at 0x0010000F", second(0x0010_000F), 0, (19, 2), Vec::new()),
+    ]
+}
+
+impl Case {
+    /// Whether this reader answers all questions as the outline says, and changes the rows it says and nothing else.
+    pub fn holds(&self, reader: &impl Subject) -> bool {
+        let mut rows = vec![0xA7; self.row_bytes + 9];
+        let mut wanted = rows.clone();
+        for (bytes, number) in wanted.chunks_exact_mut(8).zip(&self.rows) {
+            bytes.copy_from_slice(&number.to_le_bytes());
+        }
+        let answer = reader.read(&self.image, self.place, &mut rows[..self.row_bytes]);
+        let (number, p) = self.answer;
+        // The one case refused for its rows has a wrong place too, so that bill and body refuse it as well.
+        let (billed, body) = if number == 0 { (self.rows[3], 16) } else { (0, 0) };
+        answer == 64 * number + p
+            && rows == wanted
+            && reader.bill(&self.image, self.place) == billed
+            && reader.body_length(&self.image, self.place, 1) == body
+            && reader.body_length(&self.image, self.place, 0) == 0
+            && reader.body_length(&self.image, self.place, 3) == 0
+    }
+}

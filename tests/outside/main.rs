@@ -1,0 +1,181 @@
+//! Compares the C archive with an independent second reader, on the outline's bench cases, on generated images and on very large ones.
+//!
+//! Linked against the archive: rustc --edition 2021 -C opt-level=3 -L DIR -l static=pdi_host -o OUT main.rs
+//! Each named check counts one in the last line; the exit status is 0 only if none failed. Assumes 64-bit Linux.
+
+mod archive;
+mod bench_cases;
+mod compare;
+mod damage;
+mod damage_partition;
+mod damage_ranges;
+mod damage_table;
+mod fields;
+mod images;
+mod large;
+mod layout;
+mod memory;
+mod mistakes;
+mod plan;
+mod random;
+mod reader;
+mod run;
+
+use std::os::unix::process::ExitStatusExt;
+use std::process::{Command, ExitCode, Stdio};
+
+use archive::{null_with_length_0, Archive, Subject};
+use bench_cases::{cases, checksums_as_printed};
+use compare::What;
+use large::Large;
+use memory::Region;
+use mistakes::{MISTAKES, RIGHT};
+use run::{Feeder, Tally};
+
+const HELP: &str = "usage: outside [--images N] [--seed S] [--first I] [--self-test]
+  --images N    how many generated images to compare (200000)
+  --seed S      the seed they are made from (20240229)
+  --first I     the number of the first one (0)
+  --self-test   look instead whether the comparison finds readers with known mistakes; no archive is asked
+A reading outside a lent image ends the program by a signal.";
+
+/// Within so many images each mistake must be found.
+const SELF_TEST_IMAGES: u64 = 20_000;
+const TOUCH_GUARD: &str = "--touch-guard";
+
+struct Options {
+    images: u64,
+    seed: u64,
+    first: u64,
+    self_test: bool,
+}
+
+#[derive(Default)]
+struct Checks {
+    passed: u32,
+    failed: u32,
+}
+
+impl Checks {
+    fn check(&mut self, name: &str, holds: bool) {
+        println!("{} {name}", if holds { "ok    " } else { "FAILED" });
+        if holds { self.passed += 1 } else { self.failed += 1 }
+    }
+}
+
+fn main() -> ExitCode {
+    let arguments: Vec<String> = std::env::args().skip(1).collect();
+    if arguments.iter().any(|argument| argument == "--help") {
+        println!("{HELP}");
+        return ExitCode::SUCCESS;
+    }
+    if arguments == [TOUCH_GUARD] {
+        // Asked for by the self-test, which wants to see this process stopped.
+        let byte = Region::new(1).map(|region| region.touch_guard());
+        println!("{byte:?}");
+        return ExitCode::SUCCESS;
+    }
+    let Some(options) = parse(&arguments) else {
+        eprintln!("{HELP}");
+        return ExitCode::from(2);
+    };
+    let mut checks = Checks::default();
+    if options.self_test {
+        self_test(&mut checks, options.seed);
+    } else {
+        test_archive(&mut checks, &options);
+    }
+    println!("{} passed, {} failed", checks.passed, checks.failed);
+    if checks.failed == 0 { ExitCode::SUCCESS } else { ExitCode::FAILURE }
+}
+
+fn parse(arguments: &[String]) -> Option<Options> {
+    let mut options = Options { images: 200_000, seed: 20_240_229, first: 0, self_test: false };
+    let mut rest = arguments.iter();
+    while let Some(argument) = rest.next() {
+        match argument.as_str() {
+            "--images" => options.images = rest.next()?.parse().ok()?,
+            "--seed" => options.seed = rest.next()?.parse().ok()?,
+            "--first" => options.first = rest.next()?.parse().ok()?,
+            "--self-test" => options.self_test = true,
+            _ => return None,
+        }
+    }
+    Some(options)
+}
+
+fn test_archive(checks: &mut Checks, options: &Options) {
+    test_bench(checks);
+    checks.check("null pointers with length 0", null_with_length_0());
+    test_generated(checks, options);
+    test_large(checks);
+}
+
+fn test_bench(checks: &mut Checks) {
+    checks.check("the bench image's checksums are those printed", checksums_as_printed());
+    let cases = cases();
+    test_cases(checks, "archive", &Archive, &cases);
+    test_cases(checks, "second reader", &RIGHT, &cases);
+}
+
+fn test_cases(checks: &mut Checks, who: &str, subject: &impl Subject, cases: &[bench_cases::Case]) {
+    let failed: Vec<&str> = cases.iter().filter(|case| !case.holds(subject)).map(|case| case.name).collect();
+    failed.iter().for_each(|name| println!("  bench case fails: {name}"));
+    checks.check(&format!("bench cases, {who}: {} of {}", cases.len() - failed.len(), cases.len()), failed.is_empty());
+}
+
+fn test_generated(checks: &mut Checks, options: &Options) {
+    println!("generated images: {} from number {} on, seed {}", options.images, options.first, options.seed);
+    let Some(mut feeder) = Feeder::new() else { return checks.check("memory for the generated images", false) };
+    feeder.run(&Archive, options.seed, options.first, options.images);
+    let tally = &feeder.tally;
+    tally.print();
+    let fed = tally.fed;
+    checks.check(&format!("generated images: {fed} fed, all of them"), fed == options.images);
+    checks.check("generated images: no difference in an answer", tally.differing(What::Answer) == 0);
+    checks.check("generated images: no difference in the rows or around them", tally.differing(What::Rows) == 0);
+    checks.check("generated images: no image changed", tally.differing(What::Image) == 0);
+    if options.images >= SELF_TEST_IMAGES {
+        test_reach(checks, tally);
+    } else {
+        println!("  under {SELF_TEST_IMAGES} images can't reach everything: not asked whether every number is hit");
+    }
+}
+
+/// Whether the generated images reach what they are meant to reach.
+fn test_reach(checks: &mut Checks, tally: &Tally) {
+    checks.check("every number is hit", tally.by_number.iter().all(|&count| count > 0));
+    let kinds = [tally.full, tally.partial, tally.with_entries, tally.of_one, tally.of_32, tally.out_of_order];
+    checks.check("every kind of accepted image is hit", kinds.iter().all(|&count| count > 0));
+    checks.check("every deliberate damage reaches its rule and partition", tally.aimed == tally.hit);
+    checks.check("valid images have the rows planned", tally.rows_as_planned > 0 && tally.rows_otherwise == 0);
+    checks.check("no reading past an image: unreadable pages", tally.before_guard > 0 && tally.after_guard > 0);
+}
+
+fn test_large(checks: &mut Checks) {
+    let Some(mut large) = Large::new(&Archive) else { return checks.check("memory for the large images", false) };
+    large.run();
+    checks.check(&format!("large images: {}", large.images), large.failures == 0);
+}
+
+fn self_test(checks: &mut Checks, seed: u64) {
+    let found = |subject: &mistakes::Mistaken| {
+        let mut feeder = Feeder::new()?;
+        Some((0..SELF_TEST_IMAGES).find(|&index| feeder.feed(subject, seed, index).is_err()))
+    };
+    checks.check("no difference where there is no mistake", found(&RIGHT) == Some(None));
+    for mistake in &MISTAKES {
+        match found(mistake) {
+            Some(Some(index)) => checks.check(&format!("found in image {index}: {}", mistake.name), true),
+            _ => checks.check(&format!("not found: {}", mistake.name), false),
+        }
+    }
+    checks.check("an unreadable page stops a reading past the image", guard_stops());
+}
+
+/// Runs this program again to read past a region, and looks whether a signal ended it.
+fn guard_stops() -> bool {
+    let Ok(program) = std::env::current_exe() else { return false };
+    let status = Command::new(program).arg(TOUCH_GUARD).stdout(Stdio::null()).stderr(Stdio::null()).status();
+    status.is_ok_and(|status| status.signal().is_some())
+}

@@ -1,0 +1,245 @@
+//! What a valid image holds, before it has places: counts, lengths, addresses, keys, attributes and hash blocks, all chosen at random.
+//!
+//! Every value that the rules allow can come out, and those at the edge of a rule come out often. `layout.rs` gives the places.
+
+use crate::fields::{block_bytes, COMMON, KEYS};
+use crate::random::Random;
+
+pub struct Partition {
+    /// Where its header and its span start, in bytes.
+    pub header: usize,
+    pub data: usize,
+    /// The outline's lengths in words.
+    pub e: u32,
+    pub u: u32,
+    pub t: u32,
+    /// How many words of the span the body and the hash blocks in its padding take up.
+    pub used: u32,
+    pub load: u64,
+    pub execution: u64,
+    pub key: u32,
+    pub attributes: u32,
+    pub block: Option<usize>,
+}
+
+pub struct Block {
+    pub at: usize,
+    /// The index of each entry.
+    pub indexes: Vec<u32>,
+    /// The partition whose padding holds the block, and how many words after the span's start; nothing for a block outside.
+    pub host: Option<(usize, u32)>,
+}
+
+pub struct Plan {
+    pub full: bool,
+    pub images: u32,
+    /// Words of an image header.
+    pub size: u32,
+    pub optional: u32,
+    pub key: u32,
+    pub boot_key: u32,
+    pub partitions: Vec<Partition>,
+    pub blocks: Vec<Block>,
+    pub own_block: Option<usize>,
+}
+
+/// What a damage needs to find in the image.
+#[derive(Clone, Copy, Default)]
+pub struct Wish {
+    pub full: bool,
+    pub partitions: usize,
+    pub blocks: bool,
+}
+
+impl Plan {
+    pub fn choose(random: &mut Random, wish: Wish) -> Plan {
+        let full = wish.full || random.one_in(3);
+        let boot_key = any_key(random, COMMON);
+        let key = match full {
+            true => random.pick(&[0, boot_key]),
+            false => any_key(random, COMMON),
+        };
+        let count = partition_count(random).max(wish.partitions);
+        let mut plan = Plan {
+            full,
+            images: random.pick(&[1, 1, 2, 32, 0]),
+            size: random.pick(&[1, 16, 16, 16, 0]),
+            optional: 4 * random.pick(&[0, 0, 0, 1, 2, 7]),
+            key,
+            boot_key,
+            partitions: (0..count).map(|_| choose_partition(random)).collect(),
+            blocks: Vec::new(),
+            own_block: None,
+        };
+        plan.choose_sizes(random);
+        choose_loads(random, &mut plan.partitions);
+        if wish.blocks || random.one_in(2) {
+            plan.choose_blocks(random);
+        }
+        plan
+    }
+
+    /// Where the first choice was 0, any count; seldom the largest sizes, as these images are long.
+    fn choose_sizes(&mut self, random: &mut Random) {
+        if self.images == 0 {
+            self.images = random.between(1, 32) as u32;
+        }
+        if self.size == 0 {
+            let largest = random.pick(&[24, 24, 24, 255]);
+            self.size = random.between(1, largest) as u32;
+        }
+        if random.one_in(50) {
+            self.optional = 4 * random.between(1, 400) as u32;
+        }
+    }
+
+    /// Gives some owners (0 the table, p partition p) a block, alone or shared.
+    fn choose_blocks(&mut self, random: &mut Random) {
+        let owners = self.partitions.len() + 1;
+        let count = match random.below(4) {
+            0 => 1,
+            1 => owners,
+            _ => random.index(owners.min(6)) + 1,
+        };
+        let mut of_block = vec![Vec::new(); count];
+        for owner in 0..owners {
+            if !random.one_in(4) {
+                of_block[random.index(count)].push(owner as u32);
+            }
+        }
+        if of_block.iter().all(Vec::is_empty) {
+            of_block[0].push(random.index(owners) as u32);
+        }
+        for members in of_block.iter().filter(|members| !members.is_empty()) {
+            self.add_block(random, members);
+        }
+    }
+
+    fn add_block(&mut self, random: &mut Random, members: &[u32]) {
+        for &owner in members {
+            match owner {
+                0 => self.own_block = Some(self.blocks.len()),
+                p => self.partitions[p as usize - 1].block = Some(self.blocks.len()),
+            }
+        }
+        let mut block = Block { at: 0, indexes: choose_indexes(random, members), host: None };
+        if random.one_in(3) {
+            let host = random.index(self.partitions.len());
+            let words = block_bytes(block.indexes.len()) as u32 / 4;
+            block.host = Some((host, self.partitions[host].take_padding(random, words)));
+        }
+        self.blocks.push(block);
+    }
+
+    /// The numbers that an acceptance writes.
+    pub fn rows(&self) -> Vec<u64> {
+        let billed = self.partitions.iter().map(|partition| 4 * u64::from(partition.t)).sum();
+        let mut rows = vec![if self.full { 1 } else { 2 }, self.images.into(), self.partitions.len() as u64, billed];
+        for (p, partition) in (1..).zip(&self.partitions) {
+            let entry = partition.block.map_or(0, |block| self.blocks[block].entry(p));
+            let (key, attributes) = (partition.key.into(), partition.attributes.into());
+            let (length, loaded) = (4 * u64::from(partition.t), 4 * u64::from(partition.u));
+            rows.extend([partition.data as u64, length, loaded, partition.load, partition.execution, key, entry, attributes]);
+        }
+        rows
+    }
+
+    /// Whether a header lies before one that it follows in the chain.
+    pub fn is_out_of_order(&self) -> bool {
+        self.partitions.windows(2).any(|pair| pair[0].header > pair[1].header)
+    }
+}
+
+impl Partition {
+    pub fn has_load_range(&self) -> bool {
+        matches!(self.attributes >> 24 & 7, 1 | 4 | 5)
+    }
+
+    /// Lengthens the span by room for a block of so many words; often the block touches what is before and after it.
+    fn take_padding(&mut self, random: &mut Random, words: u32) -> u32 {
+        let start = self.used.max(self.t) + random.pick(&[0, 0, 1, 5]);
+        self.used = start + words;
+        self.t = self.used + random.pick(&[0, 0, 1, 9]);
+        start
+    }
+}
+
+impl Block {
+    /// Where the entry with this index lies.
+    pub fn entry(&self, index: u32) -> u64 {
+        let before = self.indexes.iter().take_while(|&&other| other != index).count();
+        (self.at + 52 * before) as u64
+    }
+}
+
+fn partition_count(random: &mut Random) -> usize {
+    match random.below(10) {
+        0 | 1 => 1,
+        2 => 32,
+        3..=6 => random.index(4) + 1,
+        _ => random.index(32) + 1,
+    }
+}
+
+/// 0 or one of the first `count` keys.
+fn any_key(random: &mut Random, count: usize) -> u32 {
+    if random.one_in(4) { 0 } else { random.pick(&KEYS[..count]) }
+}
+
+fn choose_partition(random: &mut Random) -> Partition {
+    let longest = random.pick(&[1, 4, 16, 16, 64]) + if random.one_in(100) { 3000 } else { 0 };
+    let u = random.between(1, longest) as u32;
+    let e = u + random.pick(&[0, 0, 1, 8]);
+    let t = e + random.pick(&[0, 0, 1, 3, 20]);
+    let (key, attributes) = (any_key(random, KEYS.len()), choose_attributes(random));
+    Partition { header: 0, data: 0, e, u, t, used: e, load: u64::MAX, execution: random.number(), key, attributes, block: None }
+}
+
+fn choose_attributes(random: &mut Random) -> u32 {
+    const UNEXAMINED: u32 = 0x0084_C0CF;
+    let cluster = random.below(5) as u32;
+    let kind = random.between(1, 7) as u32;
+    let cpu = random.pick(&[0, 1, 2, 3, 4, 5, 6, 8, 9]);
+    let mut none_or_both = |at: u32| random.pick(&[0, 3]) << at;
+    let pairs = none_or_both(27) | none_or_both(19) | none_or_both(12) | none_or_both(4);
+    cluster << 29 | kind << 24 | (random.below(2) as u32) << 16 | cpu << 8 | pairs | random.word() & UNEXAMINED
+}
+
+/// Lays the load ranges one after another, in any order of the partitions, touching or with gaps; often they end at 2^64.
+fn choose_loads(random: &mut Random, partitions: &mut [Partition]) {
+    let mut order: Vec<usize> = (0..partitions.len()).filter(|&i| partitions[i].has_load_range()).collect();
+    random.shuffle(&mut order);
+    let gaps: Vec<u64> = order.iter().map(|_| random.pick(&[0, 0, 1, 4, 100])).collect();
+    let all: u64 = gaps.iter().sum::<u64>() + order.iter().map(|&i| 4 * u64::from(partitions[i].u)).sum::<u64>();
+    let highest = u64::MAX.wrapping_sub(all).wrapping_add(1);
+    let mut address = match random.below(5) {
+        0 => highest,
+        1 => 0,
+        2 => 0xFFFF_FFF0 + random.below(32),
+        3 => random.below(highest),
+        _ => random.below(1 << 40),
+    };
+    for (&i, gap) in order.iter().zip(gaps) {
+        let start = address.wrapping_add(gap);
+        partitions[i].load = start;
+        address = start.wrapping_add(4 * u64::from(partitions[i].u));
+    }
+}
+
+/// The indexes of a block's entries: each member's once, among others that are no member's.
+fn choose_indexes(random: &mut Random, members: &[u32]) -> Vec<u32> {
+    let n = match random.below(4) {
+        0 | 1 => members.len(),
+        2 => random.between(members.len() as u64, 33) as usize,
+        _ => 33,
+    };
+    let mut indexes = members.to_vec();
+    while indexes.len() < n {
+        let other = if random.one_in(4) { random.word() } else { random.below(40) as u32 };
+        if !members.contains(&other) {
+            indexes.push(other);
+        }
+    }
+    random.shuffle(&mut indexes);
+    indexes
+}
