@@ -1,6 +1,6 @@
 # make run: proves and builds the reader and the command, and lists an image. `IMAGE` is any image, `PLACE` its table place, or auto.
 # make test: the gate. Its last line is 'N passed, 0 failed'. `SEED` and `IMAGES` are those of the generated images.
-# make cli: the command alone. make install PREFIX=..: command, header, archive, pkg-config file, man page.
+# make bench: what reading costs. make cli: the command alone. make install PREFIX=..: command, header, archive, pkg-config file, man page.
 IMAGE = examples/bench.pdi
 PLACE = auto
 SEED = 20240229
@@ -19,12 +19,15 @@ CLI_FLAGS = -std=c11 -D_XOPEN_SOURCE=700 -D_FILE_OFFSET_BITS=64 -DFOLIOBRIAR_VER
 	-Wall -Wextra -Werror -pedantic -Wconversion -Wshadow
 OUTSIDE_FLAGS = --edition 2021 -C opt-level=3 -D warnings -L target/staticlib -l static=pdi_host
 
-.PHONY: run test cli cli-checked outside install uninstall
+.PHONY: run test bench cli cli-checked outside install uninstall
 run: target/cli/foliobriar
 	@target/cli/foliobriar list "$(IMAGE)" --place "$(PLACE)"
 
 test:
 	@SEED="$(SEED)" IMAGES="$(IMAGES)" scripts/test
+
+bench: target/cli/foliobriar target/bench/bench
+	@bench/run
 
 cli: target/cli/foliobriar
 cli-checked: target/cli-checked/foliobriar
@@ -44,6 +47,10 @@ target/cli-checked/foliobriar: $(CLI_INPUTS)
 target/outside/outside: $(wildcard tests/outside/*.rs) $(ARCHIVE)
 	@mkdir -p $(@D)
 	$(RUSTC) $(OUTSIDE_FLAGS) -o $@ tests/outside/main.rs
+
+target/bench/bench: bench/bench.rs $(wildcard tests/outside/*.rs) $(ARCHIVE)
+	@mkdir -p $(@D)
+	$(RUSTC) $(OUTSIDE_FLAGS) -o $@ bench/bench.rs
 
 install: target/cli/foliobriar
 	install -d "$(DESTDIR)$(PREFIX)/bin" "$(DESTDIR)$(PREFIX)/include" "$(DESTDIR)$(PREFIX)/lib/pkgconfig" \
