@@ -1,16 +1,18 @@
 -- The entries of a hash block, one after the other, as a loop passes them: the count of its own entries and the search for the first.
 -- Assumes nothing.
-use Prim.Native.Nat.{ℕ, suc, _+_, _-_, _/_, _≤_, _<_}
+use Prim.Native.Nat.{ℕ, suc, _+_, _-_, _*_, _/_, _≤_, _<_}
 use native.Mathlib.Nat.{add-zero, sub-zero, zero-add, add-assoc}
 use native.Mathlib.Numerals.{add-one}
 use native.Mathlib.Omega.{arith}
 use mathlib.Core.Bool.{Bool, true, false, cond}
 use mathlib.Core.List.{List, [], _∷_}
 use mathlib.Core.Option.{Option·elim}
-use mathlib.Core.Path.{_≡_, refl}
+use mathlib.Core.Path.{_≡_, refl, sym, _∙_, ap}
+use borrow.Author.Tests.{ltb-false}
 use mir.Val.{boolByte}
 use Rattle.pdi_spec.specs.HashBlock.{entriesIn, entryAt, entryNumbers, entrySize, hasIndex, hashEntryIn, ownEntries}
 use Rattle.pdi_spec.specs.Headers.{Block}
+use Rattle.pdi_spec.specs.Ranges.{Range, blockRange, endOf, past}
 use Rattle.pdi_spec.specs.Lists.{countOf, firstOf, numbers}
 
 -- what is left of `numbers 0 n` before turn k
@@ -76,3 +78,8 @@ module _ (bytes : List ℕ) (b : Block) (i : ℕ) where
     pub all-searched : Searched k → 0 ≡ hashEntryIn bytes b i
     unfolding firstOf Option·elim
     all-searched searched = rw (none-left (entries b) k h) at searched
+
+-- a block that does not pass the image lies inside it
+pub block-inside : (n : ℕ) (b : Block) {r : Range} {t : Bool} → r ≡ blockRange b → t ≡ past n r → t ≡ false → 4 * b .offset + b .size ≤ n
+unfolding past endOf blockRange
+block-inside n b er et e = ltb-false n (4 * b .offset + b .size) (sym (et ∙ ap (past n) er) ∙ e)

@@ -3,7 +3,7 @@
 // take long, and it waits until the block's size is known to be right.
 ghost use mathlib.Core.Path.{_≡_};
 ghost use mathlib.Core.List.{[], _∷_};
-ghost use Prim.Native.Nat.{_*_};
+ghost use Prim.Native.Nat.{_+_, _*_, _≤_, _<_};
 ghost use lib.ListN.{length};
 ghost use Rattle.pdi_spec.specs.Lists.{isIn};
 ghost use Rattle.pdi_spec.specs.Attributes.{hasLoadAddress};
@@ -308,20 +308,42 @@ fn has_index(image: &[u8], b: Block, i: usize, k: u32) -> bool
     words::word_at(image, entry_at(b, k)) as usize == i
 }
 
-// How many of the block's entries have the index i.
-pub fn own_entries(image: &[u8], b: Block, i: usize) -> usize
+// The same of an entry that lies inside the image: no test in a loop over entries.
+fn index_inside(image: &[u8], b: Block, i: usize, k: u32) -> bool
+    requires { ⌜ entryAt (blockOf b) k + 3 < length (now image) ⌝ }
+    ensures { λ r. ⌜ r ≡ hasIndex (now (image .entry)) (blockOf b) i k ⌝ }
+{
+    words::word_inside(image, entry_at(b, k)) as usize == i
+}
+
+// How many entries of a block inside the image have the index i.
+fn own_entries(image: &[u8], b: Block, i: usize) -> usize
+    requires { ⌜ 4 * b .offset + b .size ≤ length (now image) ⌝ }
     ensures { λ r. ⌜ r ≡ ownEntries (now (image .entry)) (blockOf b) i ⌝ }
 {
     let n = b.size / ENTRY_SIZE;
     let mut count: usize = 0;
     for k in 0..n {
-        count += has_index(image, b, i, k) as usize;
+        count += index_inside(image, b, i, k) as usize;
     }
     count
 }
 
-// The byte offset of the first entry with the index i, 0 if there is none.
-pub fn hash_entry(image: &[u8], b: Block, i: usize) -> usize
+// The byte offset of the first entry with the index i, 0 if there is none, for a block inside the image and for any other.
+fn entry_inside(image: &[u8], b: Block, i: usize) -> usize
+    requires { ⌜ 4 * b .offset + b .size ≤ length (now image) ⌝ }
+    ensures { λ r. ⌜ r ≡ hashEntryIn (now (image .entry)) (blockOf b) i ⌝ }
+{
+    let n = b.size / ENTRY_SIZE;
+    for k in 0..n {
+        if index_inside(image, b, i, k) {
+            return entry_at(b, k);
+        }
+    }
+    0
+}
+
+fn entry_anywhere(image: &[u8], b: Block, i: usize) -> usize
     ensures { λ r. ⌜ r ≡ hashEntryIn (now (image .entry)) (blockOf b) i ⌝ }
 {
     let n = b.size / ENTRY_SIZE;
@@ -331,6 +353,15 @@ pub fn hash_entry(image: &[u8], b: Block, i: usize) -> usize
         }
     }
     0
+}
+
+pub fn hash_entry(image: &[u8], b: Block, i: usize) -> usize
+    ensures { λ r. ⌜ r ≡ hashEntryIn (now (image .entry)) (blockOf b) i ⌝ }
+{
+    if past_image(image, block_range(b)) {
+        return entry_anywhere(image, b, i);
+    }
+    entry_inside(image, b, i)
 }
 
 // n entries, rounded up to a multiple of 16 bytes.

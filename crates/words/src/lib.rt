@@ -42,7 +42,7 @@ fn word_of(a: u8, b: u8, c: u8, d: u8) -> u32
 }
 
 // The word at an offset, all of it inside: with no test between them the four reads become one.
-fn word_inside(s: &[u8], at: usize) -> u32
+pub fn word_inside(s: &[u8], at: usize) -> u32
     requires { ⌜ at + 3 < length (now s) ⌝ }
     ensures { λ r. ⌜ r ≡ wordAt (now (s .entry)) at ⌝ }
 {

@@ -1,42 +1,17 @@
--- `conditions::hash_entry` meets its contract. The loop's invariant: what a search of the entries left finds is what a search of all
--- finds. Assumes nothing.
-use Prim.Native.Nat.{_≤_, _-_}
-use native.Mathlib.Omega.{arith}
-use mathlib.Core.Path.{sym, _∙_}
-use Rattle.headers.specs.Headers.{blockOf}
+-- `conditions::hash_entry` meets its contract: both searches do. Assumes nothing.
 use Rattle.conditions.proofs.Asked.{none-asked}
-use Rattle.conditions.proofs.Entries.{Searched, none-searched, found, searched-more, all-searched}
+use Rattle.conditions.proofs.Entries.{block-inside}
 use Rattle.conditions.proofs.hash_entry.Statement.{statement}
 use Rattle.conditions.proofs.hash_entry.Tie as tie
 
-abbrev Inv-loop : tie.InvT-loop
-Inv-loop image b i n k₀ k = (k ≤ n) × Searched image (blockOf b) i k
+returns : tie.Need-returns
+returns c = c .entry-anywhere .ensures
 
-abbrev μ-loop : tie.MeasureT-loop
-μ-loop image b i n k₀ k = n - k
+entry-inside-requires : tie.Need-entry-inside-requires
+entry-inside-requires c κs = block-inside _ _ (c .before .before .block-range .ensures) (c .before .past-image .ensures) (c .if1 .left)
 
-loop-holds : tie.Need-loop-holds Inv-loop μ-loop
-loop-holds c = (omega arith, none-searched _ _ _)
-
-returns : tie.Need-returns Inv-loop μ-loop
-returns c =
-    let d = c .before .before in
-    c .entry-at .ensures
-    ∙ found _ _ _ _ (omega arith) (d .before .before .loop .inv .1) (sym (d .has-index .ensures) ∙ c .before .if1 .taken)
-
-add-k : tie.Need-add-k Inv-loop μ-loop
-add-k c = omega arith
-
-loop-less : tie.Need-loop-less Inv-loop μ-loop
-loop-less c = omega arith
-
-loop-again : tie.Need-loop-again Inv-loop μ-loop
-loop-again c =
-    let d = c .before in
-    (omega arith, searched-more _ _ _ _ (omega arith) (d .before .before .loop .inv .1) (sym (d .has-index .ensures) ∙ c .if1 .left))
-
-returns-2 : tie.Need-returns-2 Inv-loop μ-loop
-returns-2 c = all-searched _ _ _ _ (omega arith) (c .before .loop .inv .1)
+returns-2 : tie.Need-returns-2
+returns-2 c = c .entry-inside .ensures
 
 pub hash-entry-spec : {M : Type 1} → statement M
-hash-entry-spec = tie.close (tie.spec Inv-loop μ-loop loop-holds none-asked none-asked returns add-k loop-less loop-again returns-2)
+hash-entry-spec = tie.close (tie.spec none-asked none-asked none-asked returns entry-inside-requires returns-2)
