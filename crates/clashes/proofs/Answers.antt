@@ -8,22 +8,22 @@ use lib.Dec.{eqb}
 use lib.ListN.{length, take, length-append, length-map, length-take}
 use Rattle.pdi_spec.specs.Lists.{anyTrue, anyOf, anyPair}
 use Rattle.pdi_spec.specs.Headers.{Table, Header}
-use Rattle.pdi_spec.specs.Ranges.{Range, overlap, bootRange, headerRange, spanOf, bodyOf}
+use Rattle.pdi_spec.specs.Ranges.{Range, overlap, bootRange, tableWithOptional, imageHeaders, headerRange, spanOf, bodyOf}
 use Rattle.pairs.specs.Clashes.{clashes}
 use Rattle.pdi_spec.specs.Verdict.{accepted, refused}
 use Rattle.rules.specs.Walks.{headerRangesOf, hashBlocksOf, storedClash, storedOutcome}
 use Rattle.rules.specs.Stages.{stageOf}
 use Rattle.rules.specs.declared.Stage.{Stage}
-use Rattle.clashes.specs.Lists.{rangesIn, Made, Extends, partRange, tableRanges, firstRanges}
+use Rattle.clashes.specs.Lists.{rangesIn, Made, Extends, partRange, bootRanges, firstRanges}
 use Rattle.clashes.specs.declared.list.RangeList.{RangeList}
 
 -- ---- room
 
 first-length : (t : Table) → length (firstRanges t) ≤ 3
-unfolding firstRanges tableRanges
+unfolding firstRanges bootRanges
 first-length t = go (eqb (t .kind) 1)
   where
-    go : (b : Bool) → length (cond b (bootRange ∷ []) [] ++ tableRanges t) ≤ 3
+    go : (b : Bool) → length (cond b (bootRange ∷ []) [] ++ (tableWithOptional t ∷ imageHeaders t ∷ [])) ≤ 3
     go true = omega arith
     go false = omega arith
 
@@ -37,9 +37,9 @@ firsts-few f n xs = omega (arith, length-map (take n xs) f, length-take n xs)
 
 module _ (t : Table) (hs : List Header) (f x : RangeList) (first : Made f (firstRanges t)) (fixed : Extends f x (map (partRange 0) hs)) where
   pub fixed-made : Made x (headerRangesOf t hs)
-  unfolding Extends partRange firstRanges headerRangesOf tableRanges
+  unfolding Extends partRange firstRanges headerRangesOf bootRanges
   fixed-made =
-      subst (Made x) (append-assoc (cond (eqb (t .kind) 1) (bootRange ∷ []) []) (tableRanges t) (map headerRange hs)) (fixed (firstRanges t) first)
+      subst (Made x) (append-assoc (cond (eqb (t .kind) 1) (bootRange ∷ []) []) (tableWithOptional t ∷ imageHeaders t ∷ []) (map headerRange hs)) (fixed (firstRanges t) first)
 
   pub fixed-count : (n : ℕ) → length hs ≤ n → x .count ≤ 3 + n
   unfolding Extends

@@ -1,21 +1,22 @@
--- Laws of `Made`: a list with nothing in it, and with one range more. Assumes nothing.
+-- Laws of `Made`: a list with nothing in it, with one range more, and the lists that are stored from the front. Assumes nothing.
 use Prim.Native.Nat.{ℕ, _+_, _≤_, _<_}
-use native.Mathlib.Nat.{le-of-eq}
+use native.Mathlib.Nat.{le-of-eq, zero-add}
 use native.Mathlib.Numerals.{add-one}
 use native.Mathlib.Omega.{arith}
 use mathlib.Core.Bool.{Bool, true, false, cond}
 use mathlib.Core.List.{List, [], _∷_, _++_, map, flatMap, map-append, append-assoc, append-nil}
 use mathlib.Core.Path.{_≡_, refl, sym, _∙_, ap, subst}
 use lib.ListN.{length, take, set, getD, length-append, length-set}
+use lib.Dec.{eqb}
 use borrow.Author.Tests.{eq-eqb, ne-eqb}
 use lib.Seq.{take-suc, take-suc-set, take-set-le}
 use Rattle.pdi_spec.specs.Headers.{Block, Table, Header}
-use Rattle.pdi_spec.specs.Ranges.{Range, bootRange, blockRange, blockRanges}
+use Rattle.pdi_spec.specs.Ranges.{Range, bootRange, tableWithOptional, imageHeaders, blockRange, blockRanges}
 use Rattle.pdi_spec.specs.HashBlock.{noBlock}
 use Rattle.rules.specs.Walks.{blocksOf, hashBlocksOf}
 use Rattle.ranges.specs.Range.{rangeOf}
 use Rattle.ranges.specs.declared.Range as code
-use Rattle.clashes.specs.Lists.{rangesIn, Made, Extends, pushed, tableRanges, firstRanges}
+use Rattle.clashes.specs.Lists.{rangesIn, Made, Extends, pushed, bootRanges, firstRanges}
 use Rattle.clashes.specs.declared.list.RangeList.{RangeList}
 
 pub made-pushed : (l : RangeList) (r : code.Range) (xs : List Range) → l .count ≤ 66 → Made l xs → Made (pushed l r) (xs ++ (rangeOf r ∷ []))
@@ -60,48 +61,6 @@ pub made-empty : (l : RangeList) → l .count ≡ 0 → length (l .ranges) ≡ 6
 unfolding rangesIn
 made-empty l e room = record { holds = ap (λ (n : ℕ). map rangeOf (take n (l .ranges))) e; counted = e; fits = omega arith; room = room }
 
--- two more
-pub two-more : (l m n : RangeList) (r q : code.Range) (x y : Range) → l .count ≤ 65 → m ≡ pushed l r → n ≡ pushed m q → rangeOf r ≡ x → rangeOf q ≡ y
-    → Extends l n (x ∷ y ∷ [])
-unfolding pushed
-two-more l m n r q x y h e k ex ey =
-    subst (λ (v : RangeList). Extends l v (x ∷ y ∷ [])) (sym k)
-    (extend-more l m q (x ∷ []) y (omega (arith, ap (λ (v : RangeList). v .count) e)) ey
-    (subst (λ (v : RangeList). Extends l v (x ∷ [])) (sym e) (extend-more l l r [] x (omega arith) ex (extend-none l))))
-
--- a list of one has room for two
-pub one-count : (l m : RangeList) (r : code.Range) → Made l [] → m ≡ pushed l r → m .count ≡ 1
-unfolding pushed
-one-count l m r made e = ap (λ (v : RangeList). v .count) e ∙ omega (arith, made .counted)
-
--- the first ranges, with the boot header and without it
-pub first-full : (t : Table) (l m n : RangeList) (r : code.Range) → t .kind ≡ 1 → Made l [] → m ≡ pushed l r → Extends m n (tableRanges t)
-    → rangeOf r ≡ bootRange → Made n (firstRanges t)
-unfolding firstRanges Extends
-first-full t l m n r k made e ext b =
-    rw (eq-eqb (t .kind) 1 k)
-    (ext (bootRange ∷ []) (subst (λ (v : RangeList). Made v (bootRange ∷ [])) (sym e) (subst (λ (y : Range). Made (pushed l r) (y ∷ [])) b (made-pushed l r [] (omega (arith, made .counted)) made))))
-
-pub first-partial : (t : Table) (l n : RangeList) → (t .kind ≡ 1 → ⊥) → Made l [] → Extends l n (tableRanges t) → Made n (firstRanges t)
-unfolding firstRanges Extends
-first-partial t l n k made ext = rw (ne-eqb (t .kind) 1 k) (ext [] made)
-
--- more, and then more again
-pub extend-again : (l m n : RangeList) (xs ys : List Range) → Extends l m xs → Extends m n ys → Extends l n (xs ++ ys)
-unfolding Extends
-extend-again l m n xs ys p q zs made = subst (Made n) (append-assoc zs xs ys) (q (zs ++ xs) (p zs made))
-
--- a hash block adds its range, or nothing
-pub block-none : (l : RangeList) (b : Block) → noBlock b ≡ true → Extends l l (blockRanges b)
-unfolding blockRanges
-block-none l b e = rw e (extend-none l)
-
-pub block-one : (l m : RangeList) (r : code.Range) (b : Block) → l .count ≤ 66 → noBlock b ≡ false → rangeOf r ≡ blockRange b → m ≡ pushed l r
-    → Extends l m (blockRanges b)
-unfolding blockRanges
-block-one l m r b h e k p =
-    rw e (subst (λ (v : RangeList). Extends l v (blockRange b ∷ [])) (sym p) (extend-more l l r [] (blockRange b) h k (extend-none l)))
-
 -- how many ranges a block adds
 pub none-added : (b : Block) → noBlock b ≡ true → 0 ≡ length (blockRanges b)
 unfolding blockRanges
@@ -136,10 +95,6 @@ extend-block l m r b old k h e = go (noBlock b)
         })
     go false z ext xs made = subst (λ (n : ℕ). Extends l (stored m r n) (old ++ (blockRange b ∷ []))) (ap (λ (n : ℕ). m .count + n) (sym z)) (extend-more l m r old (blockRange b) h e ext) xs made
 
-pub pushed-count : (l m : RangeList) (r : code.Range) → m ≡ pushed l r → m .count ≤ l .count + 1
-unfolding pushed
-pushed-count l m r e = le-of-eq (ap (λ (v : RangeList). v .count) e)
-
 flat-append : {A B : Type 0} (g : A → List B) (xs ys : List A) → flatMap g (xs ++ ys) ≡ flatMap g xs ++ flatMap g ys
 unfolding flatMap
 flat-append g [] ys = refl
@@ -155,8 +110,69 @@ blocks-more f l i d h =
     ∙ flat-append blockRanges (map (λ (x : Header). x .block) (map f (take i l))) (f (getD l i d) .block ∷ [])
     ∙ ap (λ (xs : List Range). flatMap blockRanges (map (λ (x : Header). x .block) (map f (take i l))) ++ xs) (append-nil (blockRanges (f (getD l i d) .block)))
 
+-- ---- stored from the front
+
+-- a block's range, counted where there is a block
+abbrev pub front : RangeList → code.Range → ℕ → RangeList
+front l r k = record { ranges = set (l .ranges) 0 r; count = k }
+
+pub own-block : (l : RangeList) (r : code.Range) (b : Block) (k : ℕ) → Made l [] → rangeOf r ≡ blockRange b → k ≡ length (blockRanges b) → Made (front l r k) (blockRanges b)
+unfolding Extends
+own-block l r b k made e z =
+    subst (λ (n : ℕ). Made (front l r n) (blockRanges b)) (zero-add k)
+    (subst (λ (n : ℕ). Made (record { ranges = set (l .ranges) n r; count = n + k }) (blockRanges b)) (made .counted)
+    (extend-block l l r b [] k (omega (arith, made .counted)) e z (extend-none l) [] made))
+
+-- three ranges, the second of which may take the place of the first
+three : (l : List code.Range) (b x y : code.Range) → 3 ≤ length l → take 3 (set (set (set l 0 b) 1 x) 2 y) ≡ b ∷ x ∷ y ∷ []
+three [] b x y h = absurd (omega arith)
+three (u ∷ []) b x y h = absurd (omega arith)
+three (u ∷ v ∷ []) b x y h = absurd (omega arith)
+three (u ∷ v ∷ w ∷ l) b x y h = refl
+
+two : (l : List code.Range) (b x y : code.Range) → 2 ≤ length l → take 2 (set (set (set l 0 b) 0 x) 1 y) ≡ x ∷ y ∷ []
+two [] b x y h = absurd (omega arith)
+two (u ∷ []) b x y h = absurd (omega arith)
+two (u ∷ v ∷ l) b x y h = refl
+
+abbrev pub placed : RangeList → ℕ → code.Range → code.Range → code.Range → RangeList
+placed l at b x y = record { ranges = set (set (set (l .ranges) 0 b) at x) (at + 1) y; count = at + 2 }
+
+pub boot-one : (t : Table) → t .kind ≡ 1 → 1 ≡ length (bootRanges t)
+unfolding bootRanges
+boot-one t k = rw (eq-eqb (t .kind) 1 k) refl
+
+pub boot-none : (t : Table) → (t .kind ≡ 1 → ⊥) → 0 ≡ length (bootRanges t)
+unfolding bootRanges
+boot-none t k = rw (ne-eqb (t .kind) 1 k) refl
+
+pub first-made : (t : Table) (l : RangeList) (at : ℕ) (b x y : code.Range) → Made l [] → at ≡ length (bootRanges t)
+    → rangeOf b ≡ bootRange → rangeOf x ≡ tableWithOptional t → rangeOf y ≡ imageHeaders t → Made (placed l at b x y) (firstRanges t)
+unfolding firstRanges bootRanges rangesIn
+first-made t l at b x y made e eb ex ey =
+    subst (λ (n : ℕ). Made (placed l n b x y) (cond (eqb (t .kind) 1) (bootRange ∷ []) [] ++ (tableWithOptional t ∷ imageHeaders t ∷ []))) (sym e) (go (eqb (t .kind) 1))
+  where
+    room : (n : ℕ) → length (placed l n b x y .ranges) ≡ 67
+    room n = length-set (set (set (l .ranges) 0 b) n x) (n + 1) y ∙ length-set (set (l .ranges) 0 b) n x ∙ length-set (l .ranges) 0 b ∙ made .room
+
+    go : (k : Bool) → Made (placed l (length (cond k (bootRange ∷ []) [])) b x y) (cond k (bootRange ∷ []) [] ++ (tableWithOptional t ∷ imageHeaders t ∷ []))
+    go true =
+        record {
+          holds = ap (map rangeOf) (three (l .ranges) b x y (omega (arith, made .room))) ∙ (λ i. eb i ∷ ex i ∷ ey i ∷ []);
+          counted = refl;
+          fits = omega arith;
+          room = room 1;
+        }
+    go false =
+        record {
+          holds = ap (map rangeOf) (two (l .ranges) b x y (omega (arith, made .room))) ∙ (λ i. ex i ∷ ey i ∷ []);
+          counted = refl;
+          fits = omega arith;
+          room = room 0;
+        }
+
 -- all of them: the table's first
-pub blocks-made : (t : Table) (hs : List Header) (l m n : RangeList) → Made l [] → Extends l m (blockRanges (t .block))
+pub blocks-made : (t : Table) (hs : List Header) (m n : RangeList) → Made m (blockRanges (t .block))
     → Extends m n (flatMap blockRanges (map (λ (h : Header). h .block) hs)) → Made n (hashBlocksOf t hs)
 unfolding Extends hashBlocksOf blocksOf flatMap
-blocks-made t hs l m n made p q = q (blockRanges (t .block)) (p [] made)
+blocks-made t hs m n own more = more (blockRanges (t .block)) own

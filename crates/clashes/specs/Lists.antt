@@ -31,12 +31,13 @@ Extends l m more = (xs : List Range) → Made l xs → Made m (xs ++ more)
 unfoldable pub partRange : ℕ → Header → Range
 partRange part h = cond (eqb part 0) (headerRange h) (cond (eqb part 1) (spanOf h) (bodyOf h))
 
-unfoldable pub tableRanges : Table → List Range
-tableRanges t = tableWithOptional t ∷ imageHeaders t ∷ []
+-- the boot header of a full image
+unfoldable pub bootRanges : Table → List Range
+bootRanges t = cond (eqb (t .kind) 1) (bootRange ∷ []) []
 
--- the boot header of a full image, the table with its optional data, the image headers
+-- and then the table with its optional data, the image headers
 unfoldable pub firstRanges : Table → List Range
-firstRanges t = cond (eqb (t .kind) 1) (bootRange ∷ []) [] ++ tableRanges t
+firstRanges t = bootRanges t ++ (tableWithOptional t ∷ imageHeaders t ∷ [])
 
 -- the list and one range more
 unfoldable pub pushed : RangeList → code.Range → RangeList

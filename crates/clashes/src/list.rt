@@ -3,7 +3,7 @@ ghost use Prim.Native.Nat.{_+_, _≤_};
 ghost use mathlib.Core.List.{[], map};
 ghost use mathlib.Core.Path.{_≡_};
 ghost use lib.ListN.{length, take};
-ghost use Rattle.clashes.specs.Lists.{Extends, Made, firstRanges, partRange, pushed, rangesIn, tableRanges};
+ghost use Rattle.clashes.specs.Lists.{Extends, Made, bootRanges, firstRanges, partRange, rangesIn};
 ghost use Rattle.headers.specs.Headers.{blockOf, headerOf, tableOf};
 ghost use Rattle.pairs.specs.Clashes.{clashes};
 ghost use Rattle.pdi_spec.specs.Lists.{anyOf, anyPair};
@@ -51,43 +51,29 @@ fn empty() -> RangeList
     }
 }
 
-// The list and one range more.
-fn push(list: RangeList, r: Range) -> RangeList
-    requires { ⌜ list .count ≤ 66 ⌝ }
-    ensures { λ next. ⌜ next ≡ pushed list r ⌝ }
+// How many boot headers there are.
+fn boot_headers(table: TableHeader) -> usize
+    ensures { λ r. ⌜ (r ≡ length (bootRanges (tableOf table))) × (r ≤ 1) ⌝ }
 {
-    let mut next = list;
-    let at = next.count;
-    next.ranges[at] = r;
-    next.count = at + 1;
-    next
+    if table.kind == 1 { 1 } else { 0 }
 }
 
-// The list, and then the table with its optional data and the image headers.
-fn with_table(list: RangeList, table: TableHeader) -> RangeList
-    requires { ⌜ list .count ≤ 65 ⌝ }
-    ensures { λ r. ⌜ Extends list r (tableRanges (tableOf table)) ⌝ }
-{
-    let next = push(list, conditions::table_with_optional(table));
-    push(next, conditions::image_headers(table))
-}
-
-// The boot header of a full image, the table with its optional data, the image headers.
+// The boot header of a full image, the table with its optional data, the image headers. The boot header's range is stored in any case:
+// where it isn't counted, the table takes its place.
 pub(crate) fn first_ranges(table: TableHeader) -> RangeList
     ensures { λ r. ⌜ Made r (firstRanges (tableOf table)) ⌝ }
 {
-    let none = empty();
-    if table.kind == 1 {
-        let boot = push(
-            none,
-            Range {
-                start: 0,
-                size: BootHeader::SIZE as u64,
-            },
-        );
-        return with_table(boot, table);
-    }
-    with_table(none, table)
+    let mut list = empty();
+    let boot = Range {
+        start: 0,
+        size: BootHeader::SIZE as u64,
+    };
+    let at = boot_headers(table);
+    list.ranges[0] = boot;
+    list.ranges[at] = conditions::table_with_optional(table);
+    list.ranges[at + 1] = conditions::image_headers(table);
+    list.count = at + 2;
+    list
 }
 
 // The list, and then one range of each of the first n partitions.
@@ -114,18 +100,6 @@ pub(crate) fn with_parts(
     next
 }
 
-// The list, and then the hash block, where there is one.
-fn with_block(list: RangeList, b: Block) -> RangeList
-    requires { ⌜ list .count ≤ 66 ⌝ }
-    ensures extends { λ r. ⌜ Extends list r (blockRanges (blockOf b)) ⌝ }
-    ensures counted { λ r. ⌜ r .count ≤ list .count + 1 ⌝ }
-{
-    if conditions::no_block(b) {
-        return list;
-    }
-    push(list, conditions::block_range(b))
-}
-
 // How many ranges a hash block adds.
 fn blocks_in(b: Block) -> usize
     ensures { λ r. ⌜ (r ≡ length (blockRanges (blockOf b))) × (r ≤ 1) ⌝ }
@@ -139,8 +113,10 @@ pub(crate) fn hash_blocks(table: TableHeader, headers: [PartitionHeader; 32], n:
     requires { ⌜ n ≤ 32 ⌝ }
     ensures { λ r. ⌜ Made r (hashBlocksOf (tableOf table) (map headerOf (take n headers))) ⌝ }
 {
-    let none = empty();
-    let mut list = with_block(none, table.block);
+    let mut list = empty();
+    let own = table.block;
+    list.ranges[0] = conditions::block_range(own);
+    list.count = blocks_in(own);
     let mut i: usize = 0;
     while i < n {
         let h = headers[i];
