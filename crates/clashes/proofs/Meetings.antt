@@ -3,7 +3,7 @@
 use Prim.Native.Nat.{ℕ, zero, suc, _+_, _-_, _≤_, _<_}
 use native.Mathlib.Numerals.{add-one}
 use native.Mathlib.Omega.{arith}
-use mathlib.Core.Bool.{Bool, true, false, _&&_}
+use mathlib.Core.Bool.{Bool, true, false, _&&_, and-true, and-false}
 use mathlib.Core.List.{List, [], _∷_, map}
 use mathlib.Core.Option.{none, some, Option·elim}
 use mathlib.Core.Path.{_≡_, refl, sym, _∙_, ap}
@@ -90,18 +90,10 @@ module _ (n : ℕ) (l : List PartitionHeader) (fits : n ≤ length l) where
 module _ (h e : Header) {o : Bool} {r q : Range} (x : r ≡ loadRangeOf h .addresses) (y : q ≡ loadRangeOf e .addresses) (z : o ≡ overlap r q) where
   pub told-meet : o ≡ true → {a b : Bool} → a ≡ hasLoadAddress (h .attributes) → b ≡ hasLoadAddress (e .attributes) → a && b ≡ bothMeet h e
   unfolding bothMeet meet
-  told-meet t p k = rw (p, k, ← x, ← y, ← z, t) (go (hasLoadAddress (h .attributes)) (hasLoadAddress (e .attributes)))
-    where
-      go : (a b : Bool) → a && b ≡ a && (b && true)
-      go true true = refl
-      go true false = refl
-      go false b = refl
+  told-meet t p k = rw (p, k, ← x, ← y, ← z, t) (ap (λ (b : Bool). hasLoadAddress (h .attributes) && b) (sym (and-true (hasLoadAddress (e .attributes)))))
 
   pub told-apart : o ≡ false → false ≡ bothMeet h e
   unfolding bothMeet meet
-  told-apart n = rw (← x, ← y, ← z, n) (go (hasLoadAddress (h .attributes)) (hasLoadAddress (e .attributes)))
-    where
-      go : (a b : Bool) → false ≡ a && (b && false)
-      go true true = refl
-      go true false = refl
-      go false b = refl
+  told-apart n =
+      rw (← x, ← y, ← z, n)
+      (sym (ap (λ (b : Bool). hasLoadAddress (h .attributes) && b) (and-false (hasLoadAddress (e .attributes))) ∙ and-false (hasLoadAddress (h .attributes))))

@@ -4,14 +4,14 @@ use ranges::Range;
 use ranges::last;
 use ranges::overlap;
 use ranges::same;
-ghost use Prim.Native.Nat.{_+_, _-_, _≤_, min};
+ghost use Prim.Native.Nat.{_≤_};
 ghost use mathlib.Core.List.{map};
 ghost use mathlib.Core.Path.{_≡_};
 ghost use lib.ListN.{take};
 ghost use Rattle.pdi_spec.specs.Lists.{anyOf, anyPair};
 ghost use Rattle.pdi_spec.specs.Ranges.{overlap};
 ghost use Rattle.pairs.specs.Clashes.{clashes};
-ghost use Rattle.ranges.specs.Range.{rangeOf};
+ghost use Rattle.ranges.specs.Range.{lastNumber, rangeOf};
 
 // Two ranges overlap, and are not equal where `equals` allows that.
 pub fn clash(a: Range, b: Range, equals: bool) -> bool
@@ -28,7 +28,7 @@ pub fn clash(a: Range, b: Range, equals: bool) -> bool
 
 // The same, where the last number of `a` is known. Most ranges of an image lie in order, and then one comparison tells.
 fn clash_after(a: Range, end: u64, b: Range, equals: bool) -> bool
-    requires { ⌜ end ≡ min (a .start + (a .size - 1)) 0xFFFF_FFFF_FFFF_FFFF ⌝ }
+    requires { ⌜ end ≡ lastNumber (rangeOf a) ⌝ }
     ensures { λ r. ⌜ r ≡ clashes equals (rangeOf a) (rangeOf b) ⌝ }
 {
     if end < b.start {

@@ -1,8 +1,7 @@
 // Ranges of numbers, as positions of the image or addresses. A range's end may be over 2^64, so no function adds start and size.
-ghost use Prim.Native.Nat.{_+_, _-_, min};
 ghost use mathlib.Core.Path.{_≡_};
 ghost use Rattle.pdi_spec.specs.Ranges.{addressSpace, overlap, past, sameRange};
-ghost use Rattle.ranges.specs.Range.{rangeOf};
+ghost use Rattle.ranges.specs.Range.{lastNumber, rangeOf};
 
 // `size` numbers from `start` on.
 pub struct Range {
@@ -28,7 +27,7 @@ pub fn overlap(a: Range, b: Range) -> bool
 
 // The last number of a range, or its start where it is empty; the greatest u64 where that is less.
 pub fn last(a: Range) -> u64
-    ensures { λ r. ⌜ r ≡ min (a .start + (a .size - 1)) 0xFFFF_FFFF_FFFF_FFFF ⌝ }
+    ensures { λ r. ⌜ r ≡ lastNumber (rangeOf a) ⌝ }
 {
     let after = if a.size == 0 { 0 } else { a.size - 1 };
     if 0xFFFF_FFFF_FFFF_FFFF - a.start < after {
