@@ -10,6 +10,15 @@ DESTDIR =
 CC = gcc
 RUSTC = rustc
 
+# A name may hold anything: spaces, quotation marks, `$`. Neither make nor a recipe's shell may read such marks as its own, so these variables
+# are taken as they were given, unexpanded, and reach recipes through the environment alone, as "$$NAME". Only spaces in front get lost.
+override export IMAGE := $(value IMAGE)
+override export PLACE := $(value PLACE)
+override export SEED := $(value SEED)
+override export IMAGES := $(value IMAGES)
+override export PREFIX := $(value PREFIX)
+override export DESTDIR := $(value DESTDIR)
+
 ARCHIVE = target/staticlib/libpdi_host.a
 PROVED := $(shell find crates -name '*.rt' -o -name '*.antt')
 CLI_VERSION := $(shell cat cli/VERSION)
@@ -21,10 +30,10 @@ OUTSIDE_FLAGS = --edition 2021 -C opt-level=3 -D warnings -L target/staticlib -l
 
 .PHONY: run test bench cli cli-checked outside install uninstall
 run: target/cli/foliobriar
-	@target/cli/foliobriar list "$(IMAGE)" --place "$(PLACE)"
+	@target/cli/foliobriar list --place="$$PLACE" -- "$$IMAGE"
 
 test:
-	@SEED="$(SEED)" IMAGES="$(IMAGES)" scripts/test
+	@scripts/test
 
 bench: target/cli/foliobriar target/bench/bench
 	@bench/run
@@ -53,15 +62,15 @@ target/bench/bench: bench/bench.rs $(wildcard tests/outside/*.rs) $(ARCHIVE)
 	$(RUSTC) $(OUTSIDE_FLAGS) -o $@ bench/bench.rs
 
 install: target/cli/foliobriar
-	install -d "$(DESTDIR)$(PREFIX)/bin" "$(DESTDIR)$(PREFIX)/include" "$(DESTDIR)$(PREFIX)/lib/pkgconfig" \
-		"$(DESTDIR)$(PREFIX)/share/man/man1"
-	install -m 755 target/cli/foliobriar "$(DESTDIR)$(PREFIX)/bin/foliobriar"
-	install -m 644 include/pdi.h "$(DESTDIR)$(PREFIX)/include/pdi.h"
-	install -m 644 $(ARCHIVE) "$(DESTDIR)$(PREFIX)/lib/libpdi_host.a"
-	install -m 644 cli/foliobriar.1 "$(DESTDIR)$(PREFIX)/share/man/man1/foliobriar.1"
-	sed -e 's|@PREFIX@|$(PREFIX)|' -e 's|@VERSION@|$(CLI_VERSION)|' cli/pdi.pc.in >target/cli/pdi.pc
-	install -m 644 target/cli/pdi.pc "$(DESTDIR)$(PREFIX)/lib/pkgconfig/pdi.pc"
+	install -d -- "$$DESTDIR$$PREFIX/bin" "$$DESTDIR$$PREFIX/include" "$$DESTDIR$$PREFIX/lib/pkgconfig" \
+		"$$DESTDIR$$PREFIX/share/man/man1"
+	install -m 755 -- target/cli/foliobriar "$$DESTDIR$$PREFIX/bin/foliobriar"
+	install -m 644 -- include/pdi.h "$$DESTDIR$$PREFIX/include/pdi.h"
+	install -m 644 -- $(ARCHIVE) "$$DESTDIR$$PREFIX/lib/libpdi_host.a"
+	install -m 644 -- cli/foliobriar.1 "$$DESTDIR$$PREFIX/share/man/man1/foliobriar.1"
+	scripts/pkg_config_file "$$PREFIX" $(CLI_VERSION) >target/cli/pdi.pc
+	install -m 644 -- target/cli/pdi.pc "$$DESTDIR$$PREFIX/lib/pkgconfig/pdi.pc"
 
 uninstall:
-	rm -f "$(DESTDIR)$(PREFIX)/bin/foliobriar" "$(DESTDIR)$(PREFIX)/include/pdi.h" "$(DESTDIR)$(PREFIX)/lib/libpdi_host.a" \
-		"$(DESTDIR)$(PREFIX)/lib/pkgconfig/pdi.pc" "$(DESTDIR)$(PREFIX)/share/man/man1/foliobriar.1"
+	rm -f -- "$$DESTDIR$$PREFIX/bin/foliobriar" "$$DESTDIR$$PREFIX/include/pdi.h" "$$DESTDIR$$PREFIX/lib/libpdi_host.a" \
+		"$$DESTDIR$$PREFIX/lib/pkgconfig/pdi.pc" "$$DESTDIR$$PREFIX/share/man/man1/foliobriar.1"
