@@ -6,6 +6,11 @@ call() {
     timeout 60 "$command" "$@" >out 2>err && status=0 || status=$?
 }
 
+# call_meaning default|ignore SIGNAL ARGS...: the same, where the signal ends the command, or means nothing. No core is left.
+call_meaning() {
+    (ulimit -c 0 && exec timeout 60 env "--$1-signal=$2" "$command" "${@:3}") >out 2>err && status=0 || status=$?
+}
+
 # A sanitizer's report also ends with a status over 0, so a line of standard error has to be the command's own.
 own_words() {
     ! grep -v -e '^foliobriar: ' -e '^Try `foliobriar --help`\.$' err

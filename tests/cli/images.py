@@ -96,6 +96,12 @@ def large():
     return edited({HEADER: words, HEADER + 4: words, HEADER + 8: words}, image)
 
 
+def spanned():
+    """The front of an image of 1 GiB whose partition takes all the rest."""
+    words = ((1 << 30) - 320) // 4
+    return edited({HEADER: words, HEADER + 4: words, HEADER + 8: words})
+
+
 def many():
     """32 partitions with values of many widths; each third has no load address, and each second a hash block of its own."""
     first, blocks, data = 192, 192 + 32 * 128, 192 + 32 * 128 + 16 * 64
@@ -206,6 +212,7 @@ def cases():
     yield "two_clash", two(0x0010000F), (0, 19, 2)
     yield "packed", packed(), (0, 0, 0)
     yield "large", large(), (0, 0, 0)
+    yield "spanned", spanned(), (0, 15, 1)
     yield "many", many(), (0, 0, 0)
     yield "full", full(), (8192, 0, 0), (0, 4, 0)
     yield "full_bad", full(plm_total=15), (8192, 8, 0)

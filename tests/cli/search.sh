@@ -53,11 +53,12 @@ test_search_ambiguous() {
         and [c['place'] for c in o['candidates'] if c['accepted']] == [0, 336]"
 }
 
-# Sparse files: the bench image at the front of 1 GiB, the same one byte longer, and a table at the very end.
+# Sparse files: the bench image at the front of 1 GiB, the same one byte longer, one span over the rest, and a table at the very end.
 test_long_files() {
     cp bench.pdi longest.pdi && truncate -s 1G longest.pdi
     cp bench.pdi too_long.pdi && truncate -s $(((1 << 30) + 1)) too_long.pdi
     cp bench.pdi far_too_long.pdi && truncate -s 5G far_too_long.pdi
+    truncate -s 1G spanned.pdi
     what="1 GiB" && call bill longest.pdi && accepted
     same "$what: bill" 16 "$(cat out)"
     local name
@@ -77,5 +78,7 @@ test_long_files() {
     what="a table in the last 128 bytes" && call list longest.pdi --place $(((1 << 30) - 128)) && accepted
     what="search up to the last 128 bytes" && call list longest.pdi --place auto && in_trouble "does not choose"
     check "$what" grep -q 'place 1073741696 (0x3fffff80): accepted' err
-    rm -f longest.pdi too_long.pdi far_too_long.pdi
+    what="a span of nearly 1 GiB" && call bill spanned.pdi && accepted
+    same "$what: bill" $(((1 << 30) - 320)) "$(cat out)"
+    rm -f longest.pdi too_long.pdi far_too_long.pdi spanned.pdi
 }

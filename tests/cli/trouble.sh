@@ -32,73 +32,50 @@ test_standard_output() {
     same "$what: its bytes" tail "$(cat made)"
 }
 
-# until_mapped PROCESS FILE: waits until the process has the file mapped, or has ended.
-until_mapped() {
-    until grep -qF "$2" "/proc/$1/maps" 2>/dev/null || ! kill -0 "$1" 2>/dev/null; do :; done
+# with_faults: the command of the same sources and archive, with faults that come when faults.c is told; it is then $command.
+with_faults() {
+    check "faults.c builds" "${CC:-gcc}" -std=c11 -D_XOPEN_SOURCE=700 -D_FILE_OFFSET_BITS=64 '-DFOLIOBRIAR_VERSION="0"' "-I$root/include" \
+        -fsanitize=address,undefined -fno-sanitize-recover=all -Wl,--wrap=close,--wrap=write,--wrap=fsync \
+        "$root"/cli/*.c "$here/faults.c" "$root/target/staticlib/libpdi_host.a" -o faulty
+    command=./faulty
 }
 
-# A search of 1 GiB takes long enough to lose this race, but nothing forces it to; a few tries do.
+# A cut before pdi_read looks is met by a signal; one that a body meets in write is not.
 test_cut_file() {
-    what="a file cut short while it is mapped"
-    local process
-    for _ in 1 2 3 4 5; do
-        truncate -s 1G cut.pdi
-        "$command" bill cut.pdi --place auto >out 2>err &
-        process=$!
-        until_mapped "$process" cut.pdi
-        truncate -s 0 cut.pdi
-        wait "$process" && status=0 || status=$?
-        [ "$status" -ne 2 ] || break
-    done
-    in_trouble "^foliobriar: the image file was cut short" && silent
-
-    # A body meets the cut in write, without a signal. The pipe, which nobody reads yet, holds the command until the file is empty.
-    what="a file cut short before its body is written"
+    local command
+    with_faults
     cp large.pdi cut.pdi
-    rm -f pipe && mkfifo pipe
-    "$command" body cut.pdi 1 -o pipe >out 2>err &
-    process=$!
-    until_mapped "$process" cut.pdi
-    until [ "$(awk '{print $3}' "/proc/$process/stat" 2>/dev/null || echo S)" = S ]; do :; done
-    truncate -s 0 cut.pdi
-    cat pipe >made
-    wait "$process" && status=0 || status=$?
-    in_trouble "cut.pdi: was cut short" && silent
-    rm -f cut.pdi
+    what="a file cut short once it is mapped" && FAULT_IN=close FAULT_CUT=cut.pdi call bill cut.pdi
+    in_trouble "^foliobriar: the image file was cut short" && silent
+    cp large.pdi cut.pdi
+    what="a file cut short before its body is written" && FAULT_IN=write FAULT_CUT=cut.pdi call body cut.pdi 1 -o made
+    in_trouble "cut.pdi: was cut short" && silent && nothing_left
+    check "$what: no OUT is made" test ! -e made
 }
 
-# A signal while OUT is written removes the unfinished file first. 1 GiB takes long enough to be met by the signal.
+# A signal while OUT is written removes the unfinished file first. Whoever runs the tests may ignore some signals (nohup), so each call
+# says itself what a signal means.
 test_signals() {
+    local command signal moment
+    with_faults
     mkdir beside
-    echo old >beside/made
-    truncate -s 1G slow.pdi
-    python3 - <<'END'
-import struct
-head = bytearray(open("bench.pdi", "rb").read()[:320])
-words = ((1 << 30) - 320) // 4
-struct.pack_into("<3I", head, 192, words, words, words)
-struct.pack_into("<I", head, 192 + 0x7C, sum(struct.unpack_from("<31I", head, 192)) & 0xFFFFFFFF)
-with open("slow.pdi", "r+b") as file:
-    file.write(head)
-END
-    what="bill of nearly 1 GiB" && call bill slow.pdi && accepted
-    same "$what" $(((1 << 30) - 320)) "$(cat out)"
-    local signal
-    for signal in TERM:143 HUP:129; do
-        what="signal ${signal%:*} while OUT is written"
-        "$command" body slow.pdi 1 -o beside/made >out 2>err &
-        local process=$!
-        until [ -n "$(find beside -name '.foliobriar.*')" ] || ! kill -0 "$process" 2>/dev/null; do :; done
-        kill -s "${signal%:*}" "$process" 2>/dev/null || true
-        wait "$process" 2>/dev/null && status=0 || status=$?
-        same "$what: status" "${signal#*:}" "$status"
-        same "$what: OUT is untouched" old "$(cat beside/made)"
-        nothing_left
+    for signal in HUP INT QUIT TERM; do
+        for moment in write fsync; do
+            what="signal $signal in $moment"
+            echo old >beside/made
+            # The shell tells of a signal on its own standard error.
+            { FAULT_IN=$moment FAULT_SIGNAL=$(kill -l $signal) call_meaning default $signal body large.pdi 1 -o beside/made; } 2>/dev/null
+            same "$what: status" $((128 + $(kill -l $signal))) "$status"
+            same "$what: OUT is untouched" old "$(tr -d '\0' <beside/made)"
+            nothing_left
+            what="ignored signal $signal in $moment"
+            FAULT_IN=$moment FAULT_SIGNAL=$(kill -l $signal) call_meaning ignore $signal body large.pdi 1 -o beside/made
+            accepted && nothing_left
+            check "$what: its bytes" cmp -s beside/made <(tail -c +321 large.pdi)
+        done
     done
-    rm -f slow.pdi
-
-    # Under nohup the same signal means nothing. Here it already waits when the command starts.
-    what="an ignored signal while OUT is written"
+    # An ignored signal that already waits when the command starts.
+    what="an ignored signal that waits"
     python3 - "$command" body two.pdi 2 -o made >out 2>err <<'END' && status=0 || status=$?
 import os, signal, subprocess, sys
 def prepare():
