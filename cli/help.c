@@ -3,6 +3,8 @@
 
 #include <stdio.h>
 
+#include "pdi.h"
+
 static const char usage_list[] = "foliobriar list FILE [--place N|auto] [--tsv|--json]\n";
 static const char usage_bill[] = "foliobriar bill FILE [--place N|auto] [--tsv|--json]\n";
 static const char usage_body[] = "foliobriar body FILE P -o OUT [--place N|auto]\n";
@@ -57,8 +59,8 @@ void print_help(enum command command)
                place_option, statuses);
         break;
     case COMMAND_EXPLAIN:
-        printf("Usage: %s\nSays what was found for a refusal number from 1 to 19, whose header it is and what to ask of the client;\n"
-               "0 is an acceptance. Without a number it lists all, one a line.\n", usage_explain);
+        printf("Usage: %s\nSays what was found for a refusal number from 1 to %d, whose header it is and what to ask of the client;\n"
+               "0 is an acceptance. Without a number it lists all, one a line.\n", usage_explain, (int)PDI_LAST_RULE);
         break;
     }
 }

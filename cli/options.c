@@ -5,8 +5,8 @@
 #include <stdio.h>
 #include <string.h>
 
+#include "pdi.h"
 #include "report.h"
-#include "rules.h"
 
 enum option_index { OPTION_PLACE, OPTION_TSV, OPTION_JSON, OPTION_OUTPUT, OPTION_HELP, OPTION_VERSION, OPTIONS };
 
@@ -215,8 +215,11 @@ static bool read_operands(const struct words *words, struct request *request)
     if (command == COMMAND_EXPLAIN) {
         uint64_t number = 0;
         request->numbered = count == 1;
-        if (request->numbered && (!parse_number(first, &number) || number > LAST_RULE))
-            return misused(first, "is no number from 0 to 19");
+        if (request->numbered && (!parse_number(first, &number) || number > PDI_LAST_RULE)) {
+            char what[48];
+            snprintf(what, sizeof what, "is no number from 0 to %d", (int)PDI_LAST_RULE);
+            return misused(first, what);
+        }
         request->number = (unsigned)number;
         return true;
     }

@@ -1,64 +1,87 @@
 /* The refusal numbers in plain words, those of docs/RULES.md row for row; a test compares them. The words are plain ASCII, for any
- * terminal, and have neither quotation marks nor backslashes, so that they can stand in a JSON string as they are. */
+ * terminal, and have neither quotation marks nor backslashes, so that they can stand in a JSON string as they are. A test compares the limits
+ * that they state with pdi.h. */
 #include "rules.h"
 
 #include <stdio.h>
 #include <string.h>
 
-static const struct rule rules[LAST_RULE + 1] = {
-    {"The image is accepted: it breaks no rule, and its rows, its bill and its bodies are those that its headers state",
+#include "pdi.h"
+
+static const struct rule rules[PDI_LAST_RULE + 1] = {
+    [PDI_ACCEPTED] = {
+     "The image is accepted: it breaks no rule, and its rows, its bill and its bodies are those that its headers state",
      "the image", "Nothing"},
-    {"The image is longer than 1 GiB (1,073,741,824 bytes)",
+    [PDI_IMAGE_TOO_LONG] = {
+     "The image is longer than 1 GiB (1,073,741,824 bytes)",
      "the file", "To split the delivery"},
-    {"The row buffer is too short: 260 numbers, or 2,080 bytes for the host, are needed",
+    [PDI_ROWS_TOO_SHORT] = {
+     "The row buffer is too short: 260 numbers, or 2,080 bytes for the host, are needed",
      "our own call", "Nothing of the client: the caller has to lend more"},
-    {"The table place is no multiple of 4, or the table's 128 bytes do not fit into the image",
+    [PDI_TABLE_PLACE] = {
+     "The table place is no multiple of 4, or the table's 128 bytes do not fit into the image",
      "our call, or the file", "Where the table lies; whether the file was cut"},
-    {"The table's checksum is not the sum of its 31 words",
+    [PDI_TABLE_CHECKSUM] = {
+     "The table's checksum is not the sum of its 31 words",
      "table", "A fresh copy; whether the file was changed after it was made"},
-    {"The version is not 0x00010000, or the kind is neither FPDI (full) nor PPDI (partial)",
+    [PDI_TABLE_VERSION] = {
+     "The version is not 0x00010000, or the kind is neither FPDI (full) nor PPDI (partial)",
      "table", "Which tool made the image, and for which part"},
-    {"There are not 1 to 32 images and 1 to 32 partitions; a header size is wrong; the optional words are no multiple of 4; "
+    [PDI_TABLE_FIELDS] = {
+     "There are not 1 to 32 images and 1 to 32 partitions; a header size is wrong; the optional words are no multiple of 4; "
      "or the reserved word 0x78 is not 0",
      "table", "Which tool made the image"},
-    {"The table's key word is neither 0 nor one of the eight common keys",
+    [PDI_TABLE_KEY] = {
+     "The table's key word is neither 0 nor one of the eight common keys",
      "table", "Which key source was chosen"},
-    {"A full image whose boot header is not sound: its place, its fixed words, its checksum, its key or its lengths",
+    [PDI_BOOT_HEADER] = {
+     "A full image whose boot header is not sound: its place, its fixed words, its checksum, its key or its lengths",
      "boot header", "A fresh copy; which tool made the boot header"},
-    {"The optional data or the image headers do not fit into the image",
+    [PDI_TABLE_PARTS] = {
+     "The optional data or the image headers do not fit into the image",
      "table", "Whether the file was cut"},
-    {"The chain of partition headers breaks: header p does not fit into the image, ends the chain too early, or goes on after "
+    [PDI_PARTITION_CHAIN] = {
+     "The chain of partition headers breaks: header p does not fit into the image, ends the chain too early, or goes on after "
      "the last partition",
      "header p", "How many partitions were meant"},
-    {"The checksum of header p is not the sum of its 31 words",
+    [PDI_PARTITION_CHECKSUM] = {
+     "The checksum of header p is not the sum of its 31 words",
      "header p", "A fresh copy"},
-    {"The reserved word 0x78 of header p is not 0, or an attribute has a value that the guide does not give",
+    [PDI_PARTITION_ATTRIBUTES] = {
+     "The reserved word 0x78 of header p is not 0, or an attribute has a value that the guide does not give",
      "header p", "Which tool made the image"},
-    {"The key word of header p is no key of the guide",
+    [PDI_PARTITION_KEY] = {
+     "The key word of header p is no key of the guide",
      "header p", "Which key source was chosen"},
-    {"The lengths of header p are not in order (1 <= unencrypted <= encrypted <= total), or an actual key or signature size is "
+    [PDI_PARTITION_LENGTHS] = {
+     "The lengths of header p are not in order (1 <= unencrypted <= encrypted <= total), or an actual key or signature size is "
      "over its total",
      "header p", "How the partition was packed"},
-    {"The partition's data, or the 48 bytes of its checksum, do not fit into the image",
+    [PDI_PARTITION_SPAN] = {
+     "The partition's data, or the 48 bytes of its checksum, do not fit into the image",
      "header p", "Whether the file was cut"},
-    {"The load address is wrong: the load range passes 2^64, or a partition that is not loaded does not have 0xFFFFFFFF in "
+    [PDI_LOAD_ADDRESS] = {
+     "The load address is wrong: the load range passes 2^64, or a partition that is not loaded does not have 0xFFFFFFFF in "
      "both halves",
      "header p", "Where the partition is to be loaded"},
-    {"The hash block is wrong: only one of length and offset is 0, the length fits no number of entries from 1 to 33, it "
+    [PDI_HASH_BLOCK] = {
+     "The hash block is wrong: only one of length and offset is 0, the length fits no number of entries from 1 to 33, it "
      "passes the image, or its own index is not there exactly once. p = 0 is the table's own block",
      "header p, or table", "Which tool made the hash blocks"},
-    {"Two stored parts share bytes that must not: headers, tables, data, or a hash block with one of them",
+    [PDI_STORED_CLASH] = {
+     "Two stored parts share bytes that must not: headers, tables, data, or a hash block with one of them",
      "the image", "How the image was put together"},
-    {"The load range of partition p meets that of an earlier one",
+    [PDI_LOAD_CLASH] = {
+     "The load range of partition p meets that of an earlier one",
      "header p", "Which of the two is to lie at those addresses"},
 };
 
-/* An archive newer than these words could have more numbers. */
+/* An archive or a header newer than these words could have more numbers. */
 static const struct rule unknown = {"A rule that this command does not know", "the image", "Nothing: ask for a newer foliobriar"};
 
 const struct rule *rule_of(unsigned number)
 {
-    return number <= LAST_RULE ? &rules[number] : &unknown;
+    return number <= PDI_LAST_RULE && rules[number].found != NULL ? &rules[number] : &unknown;
 }
 
 void explain_rule(unsigned number)
@@ -71,6 +94,6 @@ void explain_rule(unsigned number)
 
 void explain_all_rules(void)
 {
-    for (unsigned number = 0; number <= LAST_RULE; number++)
-        printf("%2u  %s\n", number, rules[number].found);
+    for (unsigned number = 0; number <= PDI_LAST_RULE; number++)
+        printf("%2u  %s\n", number, rule_of(number)->found);
 }

@@ -2,8 +2,6 @@
 #ifndef RULES_H
 #define RULES_H
 
-enum { LAST_RULE = 19 };
-
 /* A row of docs/RULES.md. */
 struct rule {
     const char *found;
@@ -11,7 +9,7 @@ struct rule {
     const char *ask;
 };
 
-/* The words of a number from 0, which is an acceptance, to LAST_RULE. */
+/* The words of a number from 0, which is an acceptance, to PDI_LAST_RULE. */
 const struct rule *rule_of(unsigned number);
 
 /* Writes one rule, or a line for each, to standard output. */

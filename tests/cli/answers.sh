@@ -27,7 +27,7 @@ test_cases() {
         done
     done <cases.tsv
     check "the bench image is the one in examples/" cmp -s bench.pdi "$root/examples/bench.pdi"
-    same "numbers that the cases have" "0 3 4 5 6 7 8 9 10 11 12 13 14 15 16 17 18 19" "$(cut -f 3 cases.tsv | sort -nu | paste -sd ' ')"
+    same "numbers that the cases have" "0 $(seq -s ' ' 3 "$PDI_LAST_RULE")" "$(cut -f 3 cases.tsv | sort -nu | paste -sd ' ')"
 }
 
 test_refusal_line() {
@@ -63,13 +63,16 @@ p  span start  span length  loaded  load address  execution address         key 
     same "a hash entry" "1 0x140 16 16 0x100000 0x0 0x00000000 0x150 0x04000001" "$(tail -1 out | tr -s ' ')"
     call list packed.pdi
     same "lengths that differ" "1 0x140 28 12 0x100000 0x0 0x00000000 - 0x04000001" "$(tail -1 out | tr -s ' ')"
+    # What images.py gives the last of as many partitions as may be.
+    local p=$PDI_MOST_PARTITIONS row
     call list many.pdi
-    same "34 lines for 32 partitions" 34 "$(wc -l <out)"
+    same "a line for each partition, and two" $((p + 2)) "$(wc -l <out)"
     same "all rows as wide as the titles" 1 "$(tail -n +2 out | awk '{print length}' | sort -u | wc -l)"
-    same "10 partitions without a load address" 10 "$(tail -n +3 out | awk '$5 == "-"' | wc -l)"
-    same "16 partitions without a hash entry" 16 "$(tail -n +3 out | awk '$8 == "-"' | wc -l)"
-    same "the widest row" "32 0x1c80 128 128 0x4000000000000000 0xffffffffffffffff 0x00000000 0x1480 0x01000000" \
-        "$(tail -1 out | tr -s ' ')"
+    same "each third without a load address" $((p / 3)) "$(tail -n +3 out | awk '$5 == "-"' | wc -l)"
+    same "each second without a hash entry" $((p - p / 2)) "$(tail -n +3 out | awk '$8 == "-"' | wc -l)"
+    row=$(printf '%d 0x%x %d %d 0x%x 0x%x 0x00000000 0x%x 0x01000000' $p $((192 + 128 * p + 64 * (p / 2) + 2 * p * (p - 1))) $((4 * p)) \
+        $((4 * p)) $((p << (p + 25))) $((p < 32 ? (1 << 2 * p) - 1 : -1)) $((192 + 128 * p + 64 * (p / 2 - 1))))
+    same "the widest row" "$row" "$(tail -1 out | tr -s ' ')"
 }
 
 test_tsv() {
@@ -101,7 +104,8 @@ test_json() {
     cp out many.tsv
     call list many.pdi --json
     json "json and tsv have the same numbers" "[[str(int(v, 0) if isinstance(v, str) else v) for v in r.values()] for r in o['rows']]
-        == [line.split() for line in open('many.tsv').read().splitlines()[1:]] and len(o['rows']) == o['partitions'] == 32"
+        == [line.split() for line in open('many.tsv').read().splitlines()[1:]] and len(o['rows']) == o['partitions']
+        == $PDI_MOST_PARTITIONS"
     json "json and tsv have the same names" "list(o['rows'][0]) == open('many.tsv').readline().split()"
     call bill two.pdi --json
     json "json of a bill" "o == {'accepted': True, 'place': 0, 'billed': 20}"
@@ -109,7 +113,8 @@ test_json() {
 
 test_bill() {
     local name
-    for name in bench:16 two:20 packed:28 many:2112 type_2:16; do
+    # images.py gives partition p of many p words.
+    for name in bench:16 two:20 packed:28 many:$((2 * PDI_MOST_PARTITIONS * (PDI_MOST_PARTITIONS + 1))) type_2:16; do
         what="bill of $name" && call bill "${name%:*}.pdi" && accepted
         same "$what" "${name#*:}" "$(cat out)"
     done

@@ -22,8 +22,8 @@ test_body() {
     what="a file named -" && call body two.pdi 2 -o ./- && accepted
     same "$what: its bytes" tail "$(cat ./-)"
     local p
-    for p in 1 7 31 32; do
-        what="body $p of 32" && call body many.pdi "$p" -o made && accepted
+    for p in 1 7 $((PDI_MOST_PARTITIONS - 1)) "$PDI_MOST_PARTITIONS"; do
+        what="body $p of many" && call body many.pdi "$p" -o made && accepted
         same "$what: length" $((4 * p)) "$(wc -c <made)"
         same "$what: bytes" "$(printf '%02x' "$p")" "$(od -An -v -tx1 -w1 made | sort -u | tr -d ' ')"
     done
@@ -32,7 +32,7 @@ test_body() {
 test_body_refused() {
     local p
     echo old >made
-    for p in 0 3 33 18446744073709551615; do
+    for p in 0 3 $((PDI_MOST_PARTITIONS + 1)) 18446744073709551615; do
         what="P $p of two" && call body two.pdi "$p" -o made && in_trouble "no partition $p: the image has 2 partitions" && silent
         what="P $p of two, new file" && call body two.pdi "$p" -o fresh && in_trouble "the image has 2 partitions"
     done

@@ -24,7 +24,8 @@ static void test_answers(void)
 {
     expect(pdi_number(0) == PDI_ACCEPTED && pdi_partition(0) == 0, "an acceptance");
     expect(pdi_number(64 * 14 + 2) == PDI_PARTITION_LENGTHS && pdi_partition(64 * 14 + 2) == 2, "number 14, p 2");
-    expect(pdi_number(64 * 19 + 32) == PDI_LOAD_CLASH && pdi_partition(64 * 19 + 32) == 32, "number 19, p 32");
+    uint64_t largest = UINT64_C(64) * PDI_LAST_RULE + PDI_MOST_PARTITIONS;
+    expect(pdi_number(largest) == PDI_LAST_RULE && pdi_partition(largest) == PDI_MOST_PARTITIONS, "the last number and partition");
     expect(pdi_number(64) == PDI_IMAGE_TOO_LONG && pdi_partition(64) == 0, "number 1");
 }
 
@@ -32,31 +33,33 @@ static void test_rows(void)
 {
     /* Not one byte more than is asked for, so that a sanitizer would see a read past the rows. */
     static uint8_t rows[PDI_ROWS_BYTES];
-    size_t numbers = sizeof rows / 8;
+    const size_t numbers = PDI_ROWS_NUMBERS, head = PDI_HEAD, row = PDI_ROW;
+    const enum pdi_row first = PDI_SPAN_START, last = (enum pdi_row)(PDI_ROW - 1);
+    const uint64_t base = UINT64_C(0xF1E2D3C4B5A60000);
     for (size_t i = 0; i < numbers; i++)
-        put_number(rows, i, UINT64_C(0xF1E2D3C4B5A60000) + i);
+        put_number(rows, i, base + i);
     for (size_t i = 0; i < numbers; i++)
-        expect(pdi_row_number(rows, i) == UINT64_C(0xF1E2D3C4B5A60000) + i, "a number of the rows");
-    expect(pdi_row_field(rows, 1, PDI_SPAN_START) == UINT64_C(0xF1E2D3C4B5A60004), "the first field of row 1");
-    expect(pdi_row_field(rows, 1, PDI_ATTRIBUTES) == UINT64_C(0xF1E2D3C4B5A6000B), "the last field of row 1");
-    expect(pdi_row_field(rows, 2, PDI_SPAN_START) == UINT64_C(0xF1E2D3C4B5A6000C), "the first field of row 2");
-    expect(pdi_row_field(rows, 32, PDI_ATTRIBUTES) == UINT64_C(0xF1E2D3C4B5A60103), "the last field of row 32");
+        expect(pdi_row_number(rows, i) == base + i, "a number of the rows");
+    expect(pdi_row_field(rows, 1, first) == base + head, "the first field of row 1");
+    expect(pdi_row_field(rows, 1, last) == base + head + row - 1, "the last field of row 1");
+    expect(pdi_row_field(rows, 2, first) == base + head + row, "the first field of row 2");
+    expect(pdi_row_field(rows, PDI_MOST_PARTITIONS, last) == base + numbers - 1, "the last field of the last row");
     memset(rows, 0xFF, sizeof rows);
     expect(pdi_row_number(rows, 0) == UINT64_MAX, "2^64 - 1");
 }
 
-static void test_sizes(void)
+/* What names stand for. How long the rows and the image may be is asked of the archive itself, by the outside test. */
+static void test_order(void)
 {
-    expect(PDI_ROWS_BYTES == 2080, "2,080 bytes");
-    expect(PDI_ROWS_BYTES == 8 * ((unsigned)PDI_HEAD + (unsigned)PDI_ROW * PDI_MOST_PARTITIONS), "260 numbers");
-    expect(PDI_LONGEST_IMAGE == UINT64_C(1) << 30, "1 GiB");
-    expect(PDI_KIND == 0 && PDI_IMAGES == 1 && PDI_PARTITIONS == 2 && PDI_BILLED == 3 && PDI_HEAD == 4, "the head's order");
+    expect(PDI_KIND == 0 && PDI_IMAGES == 1 && PDI_PARTITIONS == 2 && PDI_BILLED == 3 && PDI_BILLED + 1 == PDI_HEAD, "the head's order");
+    expect(PDI_SPAN_START == 0 && PDI_ATTRIBUTES < PDI_ROW, "the order of a row");
+    expect(PDI_LAST_RULE < 64 && PDI_MOST_PARTITIONS < 64, "an answer that is 64 * number + p");
 }
 
 int main(void)
 {
     test_answers();
     test_rows();
-    test_sizes();
+    test_order();
     return faults != 0;
 }

@@ -4,14 +4,17 @@ Usage: images.py DIRECTORY
 
 Each image is NAME.pdi. cases.tsv has a line for each answer to expect: name, place, number, p. The bench image and its edits are those of
 document 01; a checksum is put right after an edit unless the edit is of the checksum itself. The words and offsets are written out here
-and not taken from the command's sources, so that a fault there can't hide.
+and not taken from the command's sources, so that a fault there can't hide. The limits are those of pdi.h, from the environment (limits.sh).
 """
 
+import os
 import pathlib
 import struct
 import sys
 
 TABLE, HEADER = 0, 192  # where the bench image has them
+MOST = int(os.environ["PDI_MOST_PARTITIONS"])
+LONGEST = int(os.environ["PDI_LONGEST_IMAGE"])
 
 
 def put(image, offset, *words):
@@ -97,17 +100,17 @@ def large():
 
 
 def spanned():
-    """The front of an image of 1 GiB whose partition takes all the rest."""
-    words = ((1 << 30) - 320) // 4
+    """The front of an image as long as may be, whose partition takes all the rest."""
+    words = (LONGEST - 320) // 4
     return edited({HEADER: words, HEADER + 4: words, HEADER + 8: words})
 
 
 def many():
-    """32 partitions with values of many widths; each third has no load address, and each second a hash block of its own."""
-    first, blocks, data = 192, 192 + 32 * 128, 192 + 32 * 128 + 16 * 64
+    """As many partitions as may be, with values of many widths; each third has no load address, and each second its own hash block."""
+    first, blocks, data = 192, 192 + MOST * 128, 192 + MOST * 128 + MOST // 2 * 64
     image = bytearray(data)
-    put_table(image, 0, image_headers=128, partitions=32, first=first)
-    for p in range(1, 33):
+    put_table(image, 0, image_headers=128, partitions=MOST, first=first)
+    for p in range(1, MOST + 1):
         at, start = first + 128 * (p - 1), len(image)
         image += bytes([p]) * (4 * p)
         loaded = p % 3 != 0
@@ -121,7 +124,7 @@ def many():
             data=start,
             load=p << (p + 25) if loaded else 0xFFFFFFFFFFFFFFFF,
             attributes=0x04000000 + p if p < 16 and loaded else 0x01000000 if loaded else 0x02000000,
-            following=at + 128 if p < 32 else 0,
+            following=at + 128 if p < MOST else 0,
             execution=(1 << 2 * p) - 1,
             key=0xC3A5C573 if p == 7 else 0,
             block=block,
@@ -158,13 +161,13 @@ def twins():
 
 def first_twin_bad():
     image = twins()
-    put(image, TABLE + 0x0C, 33)
+    put(image, TABLE + 0x0C, MOST + 1)
     seal(image, TABLE)
     return image
 
 
 def both_twins_bad():
-    """Two candidates: 33 partitions at 0, and at 336 a sound table whose partition has its lengths out of order."""
+    """Two candidates: a partition too many at 0, and at 336 a sound table whose partition has its lengths out of order."""
     image = first_twin_bad()
     put(image, HEADER + 4, 5)
     seal(image, HEADER)
@@ -183,7 +186,7 @@ def cases():
     yield "table_checksum", broken(TABLE + 0x30), (0, 4, 0)
     yield "version", edited({TABLE: 0x00020000}), (0, 5, 0)
     yield "partitions_0", edited({TABLE + 0x0C: 0}), (0, 6, 0)
-    yield "partitions_33", edited({TABLE + 0x0C: 33}), (0, 6, 0)
+    yield "partitions_over", edited({TABLE + 0x0C: MOST + 1}), (0, 6, 0)
     yield "table_key", edited({TABLE + 0x40: 0x5C3CA5A3}), (0, 7, 0)
     yield "optional_words", edited({TABLE + 0x58: 0xFFFFFFFC}), (0, 9, 0)
     yield "next_48", edited({HEADER + 0x0C: 48}), (0, 10, 1)

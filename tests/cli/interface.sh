@@ -33,6 +33,7 @@ test_liar() {
     what="two bills" && LIAR_BILL=17 call bill bench.pdi && in_trouble "$changed" && silent
     what="one bill" && LIAR_BILL=16 call bill bench.pdi && accepted
     same "$what" 16 "$(cat out)"
-    what="a number over 19" && LIAR_ANSWER=$((64 * 20 + 3)) call list bench.pdi && refused 20 3
+    local over=$((PDI_LAST_RULE + 1))
+    what="a number over the last" && LIAR_ANSWER=$((64 * over + 3)) call list bench.pdi && refused "$over" 3
     check "$what" grep -q 'A rule that this command does not know' err
 }

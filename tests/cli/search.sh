@@ -28,7 +28,7 @@ test_search_refused() {
     what="search where all are refused" && call list both_twins_bad.pdi --place auto && silent
     same "$what: status" 1 "$status"
     same "$what: lines" 3 "$(wc -l <err)"
-    check "$what: the first" grep -q '^foliobriar: both_twins_bad.pdi: place 0 (0x0): refused: number 6: There are not 1 to 32' err
+    check "$what: the first" grep -q '^foliobriar: both_twins_bad.pdi: place 0 (0x0): refused: number 6: There are not 1 to ' err
     check "$what: the second" grep -q 'pdi: place 336 (0x150): refused: number 14, partition 1: The lengths of header p' err
     same "$what: the last" "foliobriar: both_twins_bad.pdi: refused: no place is accepted" "$(tail -1 err)"
     call list both_twins_bad.pdi --place auto --json
@@ -53,13 +53,15 @@ test_search_ambiguous() {
         and [c['place'] for c in o['candidates'] if c['accepted']] == [0, 336]"
 }
 
-# Sparse files: the bench image at the front of 1 GiB, the same one byte longer, one span over the rest, and a table at the very end.
+# Sparse files: the bench image at the front of the longest one, the same one byte longer and past 2^32, one span over the rest, and a table
+# at the very end.
 test_long_files() {
-    cp bench.pdi longest.pdi && truncate -s 1G longest.pdi
-    cp bench.pdi too_long.pdi && truncate -s $(((1 << 30) + 1)) too_long.pdi
-    cp bench.pdi far_too_long.pdi && truncate -s 5G far_too_long.pdi
-    truncate -s 1G spanned.pdi
-    what="1 GiB" && call bill longest.pdi && accepted
+    local longest=$PDI_LONGEST_IMAGE last=$((PDI_LONGEST_IMAGE - 128))
+    cp bench.pdi longest.pdi && truncate -s "$longest" longest.pdi
+    cp bench.pdi too_long.pdi && truncate -s $((longest + 1)) too_long.pdi
+    cp bench.pdi far_too_long.pdi && truncate -s $((longest + (1 << 32))) far_too_long.pdi
+    truncate -s "$longest" spanned.pdi
+    what="the longest image" && call bill longest.pdi && accepted
     same "$what: bill" 16 "$(cat out)"
     local name
     for name in too_long far_too_long; do
@@ -70,15 +72,15 @@ test_long_files() {
         json "$what" "o['number'] == 1 and o['place'] is None"
         what="$name, body" && call body $name.pdi 1 -o fresh && refused 1 0
     done
-    what="search of 1 GiB within 20 seconds"
+    what="search of the longest image within 20 seconds"
     timeout 20 "$command" bill longest.pdi --place auto >out 2>err && status=0 || status=$?
     accepted
     same "$what" 16 "$(cat out)"
-    head -c 128 bench.pdi | dd of=longest.pdi bs=4 seek=$(((1 << 28) - 32)) conv=notrunc status=none
-    what="a table in the last 128 bytes" && call list longest.pdi --place $(((1 << 30) - 128)) && accepted
+    head -c 128 bench.pdi | dd of=longest.pdi bs=4 seek=$((last / 4)) conv=notrunc status=none
+    what="a table in the last 128 bytes" && call list longest.pdi --place "$last" && accepted
     what="search up to the last 128 bytes" && call list longest.pdi --place auto && in_trouble "does not choose"
-    check "$what" grep -q 'place 1073741696 (0x3fffff80): accepted' err
-    what="a span of nearly 1 GiB" && call bill spanned.pdi && accepted
-    same "$what: bill" $(((1 << 30) - 320)) "$(cat out)"
+    check "$what" grep -qF "$(printf 'place %d (0x%x): accepted' "$last" "$last")" err
+    what="the longest span" && call bill spanned.pdi && accepted
+    same "$what: bill" $((longest - 320)) "$(cat out)"
     rm -f longest.pdi too_long.pdi far_too_long.pdi spanned.pdi
 }

@@ -31,7 +31,7 @@ test_numbers() {
         what="place='$n'" && call list bench.pdi --place="$n" && in_trouble "place takes"
         what="P '$n'" && call body bench.pdi -o made -- "$n" && in_trouble "no number of a partition"
         what="P '$n'" && call body -o made -- bench.pdi "$n" && in_trouble "no number of a partition"
-        what="explain '$n'" && call explain -- "$n" && in_trouble "no number from 0 to 19" && silent
+        what="explain '$n'" && call explain -- "$n" && in_trouble "no number from 0 to $PDI_LAST_RULE\$" && silent
     done
     for n in 0 00 0x0 0X0 0x00000000000000000000; do
         what="place '$n'" && call list bench.pdi --place "$n" && accepted

@@ -11,29 +11,29 @@ an actual key or signature size is over its total
   p      the partition, counted from 1 in chain order; 0 means the image as a whole, or its table" "$(cat out)"
     what="explain 0" && call explain 0 && accepted
     check "$what" grep -q 'found  The image is accepted' out
-    what="explain 0x13" && call explain 0x13 && accepted
-    same "$what" "number 19" "$(head -1 out)"
-    local n
-    for n in 20 64 4294967296 18446744073709551615; do
-        what="explain $n" && call explain "$n" && in_trouble "no number from 0 to 19" && silent
+    local n last=$PDI_LAST_RULE
+    what="explain the last in hexadecimal" && call explain "$(printf '0x%x' "$last")" && accepted
+    same "$what" "number $last" "$(head -1 out)"
+    for n in $((last + 1)) 64 4294967296 18446744073709551615; do
+        what="explain $n" && call explain "$n" && in_trouble "no number from 0 to $last\$" && silent
     done
     what="explain 1 2" && call explain 1 2 && in_trouble "at most one operand"
     what="explain all" && call explain && accepted
-    same "$what: 20 lines" 20 "$(wc -l <out)"
-    same "$what: in order" "$(seq 0 19)" "$(awk '{print $1}' out)"
+    same "$what: in order" "$(seq 0 "$last")" "$(awk '{print $1}' out)"
+    check "$what: has words for each" test -z "$(grep 'does not know' out)"
 }
 
 # The words of the command against docs/RULES.md, row for row. Only the marks of the page differ: its <= is one character.
 test_rules() {
-    check "explain agrees with docs/RULES.md" python3 - "$command" "$root/docs/RULES.md" <<'END'
+    check "explain agrees with docs/RULES.md" python3 - "$command" "$root/docs/RULES.md" "$PDI_LAST_RULE" <<'END'
 import re, subprocess, sys
-command, page = sys.argv[1:]
+command, page, last = sys.argv[1:]
 def explain(*number):
     return subprocess.run([command, "explain", *number], capture_output=True, text=True, check=True).stdout.splitlines()
 rows = [line.strip().strip("|").split("|") for line in open(page, encoding="utf-8") if re.match(r"\| *\d+ *\|", line)]
 rows = [[cell.strip().replace("\u2264", "<=").replace("`", "") for cell in row] for row in rows]
 numbers = [row[0] for row in rows]
-assert numbers == [str(n) for n in range(1, 20)], numbers
+assert numbers == [str(n) for n in range(1, int(last) + 1)], numbers
 short = explain()
 for number, found, whose, ask in rows:
     lines = explain(number)
@@ -42,6 +42,28 @@ for number, found, whose, ask in rows:
     assert short[int(number)] == f"{number:>2}  {found}", short[int(number)]
     assert not re.search(r'["\\]|[^ -~]', found), found
 END
+}
+
+# stated WHERE WORDS FILE: the file, without its line breaks and the man page's marks, has the words.
+stated() {
+    check "$1 states [$2]" grep -qF -- "$2" <(sed -e 's/\\-/-/g' -e 's/^\.[A-Z]* //' "$3" | paste -sd ' ')
+}
+
+# The limits in the words of the command, of docs/RULES.md (which has the same words) and of the man page are those of pdi.h.
+test_limits() {
+    local gibibytes="$((PDI_LONGEST_IMAGE >> 30)) GiB"
+    call explain
+    stated explain "longer than $gibibytes ($(grouped "$PDI_LONGEST_IMAGE") bytes)" out
+    stated explain "$PDI_ROWS_NUMBERS numbers, or $(grouped "$PDI_ROWS_BYTES") bytes for the host" out
+    stated explain "1 to $PDI_MOST_PARTITIONS partitions" out
+    stated explain "entries from 1 to $((PDI_MOST_PARTITIONS + 1))," out
+    stated "the man page" "longer than $gibibytes is refused" "$root/cli/foliobriar.1"
+    stated "the man page" "a refusal number from 1 to $PDI_LAST_RULE what" "$root/cli/foliobriar.1"
+    call list bench.pdi --tsv
+    stated "the man page" "a line for each partition: $(head -1 out | sed "s/$tab/, /g")." "$root/cli/foliobriar.1"
+    call explain --help
+    stated "explain --help" "a refusal number from 1 to $PDI_LAST_RULE," out
+    check "limits of the header" test "$PDI_ROWS_BYTES" -eq $((8 * PDI_ROWS_NUMBERS))
 }
 
 # Commands and options: those of the sources, of --help and of the man page are the same, and the command knows them.
