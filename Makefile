@@ -10,8 +10,8 @@ DESTDIR =
 CC = gcc
 RUSTC = rustc
 
-# A name may hold anything: spaces, quotation marks, `$`. Neither make nor a recipe's shell may read such marks as its own, so these variables
-# are taken as they were given, unexpanded, and reach recipes through the environment alone, as "$$NAME". Only spaces in front get lost.
+# A name may hold anything: spaces, quotation marks, `$`. Neither make nor a recipe's shell may read such marks as its own, so these are
+# taken as they were given, unexpanded, and reach recipes through the environment alone, as "$$NAME". Only spaces in front get lost.
 override export IMAGE := $(value IMAGE)
 override export PLACE := $(value PLACE)
 override export SEED := $(value SEED)
@@ -53,11 +53,11 @@ target/cli-checked/foliobriar: $(CLI_INPUTS)
 	@mkdir -p $(@D)
 	$(CC) $(CLI_FLAGS) -O1 -g -fsanitize=address,undefined -fno-sanitize-recover=all $(CLI_SOURCES) $(ARCHIVE) -o $@
 
-target/outside/outside: $(wildcard tests/outside/*.rs) $(ARCHIVE)
+target/outside/outside: $(wildcard tests/outside/*.rs) include/pdi.h $(ARCHIVE)
 	@mkdir -p $(@D)
 	$(RUSTC) $(OUTSIDE_FLAGS) -o $@ tests/outside/main.rs
 
-target/bench/bench: bench/bench.rs $(wildcard tests/outside/*.rs) $(ARCHIVE)
+target/bench/bench: $(wildcard bench/*.rs tests/outside/*.rs) include/pdi.h $(ARCHIVE)
 	@mkdir -p $(@D)
 	$(RUSTC) $(OUTSIDE_FLAGS) -o $@ bench/bench.rs
 

@@ -2,6 +2,8 @@
 //!
 //! The declarations repeat the C header. The archive is linked statically under its own name.
 
+use crate::limits::ROWS_BYTES;
+
 pub trait Subject {
     fn read(&self, image: &[u8], place: u64, rows: &mut [u8]) -> u64;
     fn bill(&self, image: &[u8], place: u64) -> u64;
@@ -35,7 +37,7 @@ impl Subject for Archive {
 /// Calls with null pointers of length 0, which the C header allows. Answers whether all answers are right.
 pub fn null_with_length_0() -> bool {
     let (none, no_rows) = (std::ptr::null(), std::ptr::null_mut());
-    let mut rows = [7u8; 2080];
+    let mut rows = [7u8; ROWS_BYTES];
     // SAFETY: a pointer whose length is 0 is never followed; the others are slices of this function.
     unsafe {
         [0, 4, 2, u64::MAX].into_iter().all(|place| {
@@ -44,6 +46,6 @@ pub fn null_with_length_0() -> bool {
                 && pdi_read(rows.as_ptr(), 336, place, no_rows, 0) == 64 * 2
                 && pdi_bill(none, 0, place) == 0
                 && [0, 1, u64::MAX].into_iter().all(|p| pdi_body_length(none, 0, place, p) == 0)
-        }) && rows == [7; 2080]
+        }) && rows == [7; ROWS_BYTES]
     }
 }

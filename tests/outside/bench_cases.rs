@@ -4,8 +4,8 @@
 
 use crate::archive::Subject;
 use crate::fields::{get, partition, put, put_checksum_right, table, BLOCK_LENGTH, BLOCK_OFFSET, CHECKSUM};
+use crate::limits::{BILLED, MOST_PARTITIONS, ROWS_BYTES};
 
-const ROWS: usize = 2080;
 const HEADER: usize = 192;
 const SECOND_HEADER: usize = 336;
 
@@ -50,7 +50,7 @@ fn printed_rows() -> Vec<u64> {
 }
 
 fn case(name: &'static str, image: Vec<u8>, place: u64, answer: (u64, u64), rows: Vec<u64>) -> Case {
-    Case { name, image, place, row_bytes: ROWS, answer, rows }
+    Case { name, image, place, row_bytes: ROWS_BYTES, answer, rows }
 }
 
 /// The bench image with some words of its table or its partition header edited, refused.
@@ -85,7 +85,7 @@ fn place_cases() -> Vec<Case> {
         case("place 2", image(), 2, (3, 0), Vec::new()),
         case("place 208", image(), 208, (4, 0), Vec::new()),
         case("place 212", image(), 212, (3, 0), Vec::new()),
-        Case { row_bytes: 8 * 259, ..case("rows of 259 and place 2", image(), 2, (2, 0), Vec::new()) },
+        Case { row_bytes: ROWS_BYTES - 8, ..case("rows a number too short and place 2", image(), 2, (2, 0), Vec::new()) },
     ]
 }
 
@@ -93,7 +93,7 @@ fn word_cases() -> Vec<Case> {
     use partition::{ATTRIBUTES, D, KEY, NEXT, T, U};
     vec![
         refused("partitions 0", 0, &[(table::PARTITIONS, 0)], 6, 0),
-        refused("partitions 33", 0, &[(table::PARTITIONS, 33)], 6, 0),
+        refused("a partition too many", 0, &[(table::PARTITIONS, MOST_PARTITIONS as u32 + 1)], 6, 0),
         refused("table key 0x5C3CA5A3", 0, &[(table::KEY, 0x5C3C_A5A3)], 7, 0),
         refused("next 48", HEADER, &[(NEXT, 48)], 10, 1),
         refused("attribute type 0", HEADER, &[(ATTRIBUTES, 0x0000_0001)], 12, 1),
@@ -166,7 +166,7 @@ impl Case {
         let answer = reader.read(&self.image, self.place, &mut rows[..self.row_bytes]);
         let (number, p) = self.answer;
         // The one case refused for its rows has a wrong place too, so that bill and body refuse it as well.
-        let (billed, body) = if number == 0 { (self.rows[3], 16) } else { (0, 0) };
+        let (billed, body) = if number == 0 { (self.rows[BILLED], 16) } else { (0, 0) };
         answer == 64 * number + p
             && rows == wanted
             && reader.bill(&self.image, self.place) == billed

@@ -8,6 +8,7 @@ use crate::damage_ranges::{rule_17, rule_18, rule_19};
 use crate::damage_table::{rule_1, rule_2, rule_3, rule_4, rule_5, rule_6, rule_7, rule_8, rule_9};
 use crate::fields::{boot, get, put, put_boot_checksum_right, put_checksum_right, HEADER};
 use crate::layout::{Image, Part};
+use crate::limits::{LAST_RULE, MOST_PARTITIONS};
 use crate::plan::Wish;
 use crate::random::Random;
 
@@ -21,6 +22,12 @@ pub enum Aim {
     At(u64, usize),
 }
 
+/// How each rule is broken, from rule 1 on.
+const WAYS: [fn(&mut Image, &mut Random) -> Aim; LAST_RULE] = [
+    rule_1, rule_2, rule_3, rule_4, rule_5, rule_6, rule_7, rule_8, rule_9, rule_10, rule_11, rule_12, rule_13, rule_14, rule_15, rule_16,
+    rule_17, rule_18, rule_19,
+];
+
 /// What an image needs so that this rule can be broken.
 pub fn wish(rule: u64) -> Wish {
     let partitions = if matches!(rule, 10 | 19) { 2 } else { 1 };
@@ -28,33 +35,12 @@ pub fn wish(rule: u64) -> Wish {
 }
 
 pub fn break_rule(rule: u64, image: &mut Image, random: &mut Random) -> Aim {
-    let way = match rule {
-        1 => rule_1,
-        2 => rule_2,
-        3 => rule_3,
-        4 => rule_4,
-        5 => rule_5,
-        6 => rule_6,
-        7 => rule_7,
-        8 => rule_8,
-        9 => rule_9,
-        10 => rule_10,
-        11 => rule_11,
-        12 => rule_12,
-        13 => rule_13,
-        14 => rule_14,
-        15 => rule_15,
-        16 => rule_16,
-        17 => rule_17,
-        18 => rule_18,
-        _ => rule_19,
-    };
-    way(image, random)
+    WAYS[rule as usize - 1](image, random)
 }
 
 /// Breaks several rules, the highest number first, so that no later edit mends an earlier damage of a lower number. The lowest wins.
 pub fn break_several(image: &mut Image, random: &mut Random) -> Aim {
-    let mut rules: Vec<u64> = (0..random.between(2, 4)).map(|_| random.between(1, 19)).collect();
+    let mut rules: Vec<u64> = (0..random.between(2, 4)).map(|_| random.between(1, LAST_RULE as u64)).collect();
     rules.sort_unstable();
     rules.dedup();
     // Both may move a hash block, and 17 wants to find it where it was.
@@ -115,7 +101,7 @@ fn telling_value(image: &Image, random: &mut Random, at: usize) -> u32 {
         3 => random.flip(old),
         4 => old.wrapping_add(0x4000_0000),
         5 => words.wrapping_sub(random.below(40) as u32),
-        6 => random.pick(&[0, 1, 2, 32, 33, u32::MAX, u32::MAX - 3, 0x4000_0000, 0x3FFF_FFE0]),
+        6 => random.pick(&[0, 1, 2, MOST_PARTITIONS as u32, MOST_PARTITIONS as u32 + 1, u32::MAX, u32::MAX - 3, 0x4000_0000, 0x3FFF_FFE0]),
         _ => get(&image.bytes, 4 * random.index(words as usize)),
     }
 }

@@ -4,6 +4,7 @@ use crate::damage::Aim;
 use crate::damage_table::wrong_key;
 use crate::fields::{partition, table, *};
 use crate::layout::Image;
+use crate::limits::MOST_PARTITIONS;
 use crate::random::Random;
 
 /// Four times any of these is the same as of the word without bit 30, in 32 bits.
@@ -58,8 +59,8 @@ fn end_chain_late(image: &mut Image, random: &mut Random) -> Aim {
 
 fn miscount(image: &mut Image, random: &mut Random) -> Aim {
     let count = image.count();
-    let stated = random.pick(&[count - 1, count + 1, 1, 32]);
-    if stated == 0 || stated > 32 || stated == count {
+    let stated = random.pick(&[count - 1, count + 1, 1, MOST_PARTITIONS]);
+    if stated == 0 || stated > MOST_PARTITIONS || stated == count {
         return Aim::NotHere;
     }
     image.set_table(table::PARTITIONS, stated as u32);

@@ -5,11 +5,12 @@
 use crate::damage::Aim;
 use crate::fields::{partition, table, *};
 use crate::layout::{Image, Part};
+use crate::limits::MOST_ENTRIES;
 use crate::random::Random;
 
 /// An index that no owner has.
 fn foreign_index(random: &mut Random) -> u32 {
-    random.between(33, u32::MAX.into()) as u32
+    random.between(MOST_ENTRIES as u64, u32::MAX.into()) as u32
 }
 
 impl Image {
@@ -34,7 +35,7 @@ pub fn rule_17(image: &mut Image, random: &mut Random) -> Aim {
     let owner = random.index(image.count() + 1);
     match (image.block_of(owner), random.below(8)) {
         (_, 0) => append_block(image, random, owner),
-        (_, 1) => append_block_of_34(image, random, owner),
+        (_, 1) => append_too_long_block(image, random, owner),
         (None, _) => half_a_block(image, random, owner),
         (Some(_), 2) => {
             image.set_block(owner, random.pick(&[BLOCK_LENGTH, BLOCK_OFFSET]), 0);
@@ -51,7 +52,7 @@ pub fn rule_17(image: &mut Image, random: &mut Random) -> Aim {
 /// A new block at the very end of the image, for any owner: right, cut by a byte, or with the own index only or also in the padding.
 fn append_block(image: &mut Image, random: &mut Random, owner: usize) -> Aim {
     // No multiple of 4, so that there is padding.
-    let n = random.pick(&[1, 1, 2, 3, 6, 33]);
+    let n = random.pick(&[1, 1, 2, 3, 6, MOST_ENTRIES]);
     let start = image.grow(random, block_bytes(n));
     let own = random.index(n);
     for i in 0..n {
@@ -77,13 +78,13 @@ fn append_block(image: &mut Image, random: &mut Random, owner: usize) -> Aim {
     }
 }
 
-/// 34 entries are one too many, whatever they hold.
-fn append_block_of_34(image: &mut Image, random: &mut Random, owner: usize) -> Aim {
-    let start = image.grow(random, block_bytes(34));
-    for i in 0..34 {
+/// One entry too many, whatever they hold.
+fn append_too_long_block(image: &mut Image, random: &mut Random, owner: usize) -> Aim {
+    let start = image.grow(random, block_bytes(MOST_ENTRIES + 1));
+    for i in 0..=MOST_ENTRIES {
         put(&mut image.bytes, start + 52 * i, if i == 0 { owner as u32 } else { foreign_index(random) });
     }
-    image.set_block(owner, BLOCK_LENGTH, block_bytes(34) as u32);
+    image.set_block(owner, BLOCK_LENGTH, block_bytes(MOST_ENTRIES + 1) as u32);
     image.set_block(owner, BLOCK_OFFSET, start as u32 / 4);
     Aim::At(17, owner)
 }
@@ -98,8 +99,10 @@ fn wrong_length(image: &mut Image, random: &mut Random, owner: usize, block: usi
     let n = image.plan.blocks[block].indexes.len();
     let right = block_bytes(n) as u32;
     let near = random.pick(&[right - 16, right + 16, right - 1, right + 1, right + 4, right - 4]);
-    let length = random.pick(&[near, near, 52 * n as u32, 1, 16, 48, 52, 80, 96, 1732, 1744, 1776, 0xFFFF_FFF0, u32::MAX]);
-    if (1..=33).any(|n| block_bytes(n) as u32 == length) || length == 0 {
+    let [longest, over] = [MOST_ENTRIES, MOST_ENTRIES + 1].map(|n| block_bytes(n) as u32);
+    let far = [52 * n as u32, 1, 16, 48, 52, 80, 96, longest + 4, longest + 16, over, 0xFFFF_FFF0, u32::MAX];
+    let length = random.pick(&[&[near, near], &far[..]].concat());
+    if (1..=MOST_ENTRIES).any(|n| block_bytes(n) as u32 == length) || length == 0 {
         return Aim::NotHere;
     }
     image.set_block(owner, BLOCK_LENGTH, length);

@@ -3,9 +3,10 @@
 use crate::damage::Aim;
 use crate::fields::{boot, table, *};
 use crate::layout::Image;
+use crate::limits::{LONGEST_IMAGE, MOST_PARTITIONS, ROWS_BYTES};
 use crate::random::Random;
 
-const LONGEST: u64 = 1 << 30;
+const LONGEST: u64 = LONGEST_IMAGE as u64;
 
 pub fn rule_1(image: &mut Image, random: &mut Random) -> Aim {
     if random.one_in(3) {
@@ -18,7 +19,7 @@ pub fn rule_1(image: &mut Image, random: &mut Random) -> Aim {
 }
 
 pub fn rule_2(image: &mut Image, random: &mut Random) -> Aim {
-    image.row_bytes = random.pick(&[0, 1, 8, 260, 2071, 2072, 2079, 2079]);
+    image.row_bytes = random.pick(&[0, 1, 8, ROWS_BYTES / 8, ROWS_BYTES - 9, ROWS_BYTES - 8, ROWS_BYTES - 1, ROWS_BYTES - 1]);
     Aim::At(2, 0)
 }
 
@@ -70,7 +71,8 @@ pub fn rule_5(image: &mut Image, random: &mut Random) -> Aim {
 pub fn rule_6(image: &mut Image, random: &mut Random) -> Aim {
     let sizes = image.of_table(table::SIZES);
     let not_32 = random.pick(&[0, 1, 16, 31, 33, 64, 160, 255]);
-    let count = random.pick(&[0, 33, 34, 64, 0x100, 0x101, 0x8000_0001, u32::MAX]);
+    let most = MOST_IMAGES.max(MOST_PARTITIONS as u32);
+    let count = random.pick(&[0, most + 1, most + 2, 64, 0x100, 0x101, 0x8000_0001, u32::MAX]);
     match random.below(8) {
         0 => image.set_table(table::IMAGES, count),
         1 => image.set_table(table::PARTITIONS, count),

@@ -41,6 +41,7 @@ pub const BLOCK_OFFSET: usize = 0x64;
 pub const RESERVED: usize = 0x78;
 pub const CHECKSUM: usize = 0x7C;
 pub const HEADER: usize = 128;
+pub const MOST_IMAGES: u32 = 32;
 
 /// Offsets in the boot header.
 pub mod boot {

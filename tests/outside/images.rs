@@ -4,6 +4,7 @@
 
 use crate::damage::{break_rule, break_several, break_twice, cut, edit_words, flip_bits, wish, Aim};
 use crate::layout::{lay_out, Image, Part};
+use crate::limits::LAST_RULE;
 use crate::plan::{Plan, Wish};
 use crate::random::Random;
 
@@ -42,7 +43,7 @@ fn valid(random: &mut Random, wish: Wish, buffer: Vec<u8>) -> Image {
 
 /// One rule broken, or just not broken. Where the image has nothing of the kind, another way is tried, and then another image.
 fn damaged(random: &mut Random, mut buffer: Vec<u8>) -> (Image, Aim) {
-    let rule = random.between(1, 19);
+    let rule = random.between(1, LAST_RULE as u64);
     loop {
         let mut image = valid(random, wish(rule), buffer);
         for _ in 0..10 {

@@ -1,4 +1,4 @@
-//! Images of up to a gibibyte and one byte, mostly zeros that take no memory, with their parts at the far end.
+//! Images of up to a byte more than the longest, mostly zeros that take no memory, with their parts at the far end.
 //!
 //! They are lent read-only and end just before an unreadable page.
 
@@ -7,11 +7,11 @@ use crate::bench_cases::{bench_image, edit};
 use crate::compare::{compare, shown, Difference, Lent, Rows};
 use crate::fields::{boot, get, partition, table, BLOCK_LENGTH, BLOCK_OFFSET};
 use crate::layout::{lay_out, Image};
+use crate::limits::{HASH_ENTRY, HEAD, LONGEST_IMAGE as LONGEST, ROW, ROWS_BYTES, SPAN_START};
 use crate::memory::Region;
 use crate::plan::{Plan, Wish};
 use crate::random::Random;
 
-const LONGEST: usize = 1 << 30;
 const SEED: u64 = 0x1A46E;
 const FAR_IMAGES: u64 = 64;
 
@@ -42,7 +42,7 @@ impl<'a, S: Subject> Large<'a, S> {
     fn ask(&mut self, length: usize, cut: usize, place: u64, wanted: Option<u64>) {
         let Large { subject, region, rows, random, .. } = self;
         let result = region.read_only(length, |image| {
-            let lent = Lent { image: &image[..length - cut], place, row_bytes: 2080, partitions: 2 };
+            let lent = Lent { image: &image[..length - cut], place, row_bytes: ROWS_BYTES, partitions: 2 };
             compare(*subject, &lent, rows, random)
         });
         self.images += 1;
@@ -81,8 +81,9 @@ impl<'a, S: Subject> Large<'a, S> {
 
     fn has_rows(&self, plan: &Plan, shift: u64) -> bool {
         plan.rows().into_iter().enumerate().all(|(i, planned)| {
-            let is_span_start = i >= 4 && i % 8 == 4;
-            let is_entry = i >= 4 && i % 8 == 2 && planned != 0;
+            let number = i.checked_sub(HEAD).map(|i| i % ROW);
+            let is_span_start = number == Some(SPAN_START);
+            let is_entry = number == Some(HASH_ENTRY) && planned != 0;
             self.rows.number(i) == if is_span_start || is_entry { planned + shift } else { planned }
         })
     }

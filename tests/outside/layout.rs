@@ -4,6 +4,7 @@
 //! checksum, an unexamined word of the same header is changed so that it is right, and rule 18 alone is broken.
 
 use crate::fields::{boot, partition, table, *};
+use crate::limits::ROWS_BYTES;
 use crate::plan::{Partition, Plan};
 use crate::random::Random;
 
@@ -34,7 +35,7 @@ pub struct Image {
 pub fn lay_out(random: &mut Random, plan: Plan, buffer: Vec<u8>, sharing: bool) -> (Image, Option<(Part, Part)>) {
     let parts = order(random, &plan);
     let clash = sharing.then(|| random.index(parts.len() - 1) + 1);
-    let row_bytes = random.pick(&[2080, 2080, 2081, 2087, 2088, 2400]);
+    let row_bytes = random.pick(&[ROWS_BYTES, ROWS_BYTES, ROWS_BYTES + 1, ROWS_BYTES + 7, ROWS_BYTES + 8, ROWS_BYTES + 320]);
     let mut image = Image { bytes: buffer, length: 0, place: 0, row_bytes, plan, table: 0, image_headers: 0, parts };
     let end = image.arrange(random, clash);
     let slack = random.pick(&[0, 0, 0, 1, 3, 4, 50]);

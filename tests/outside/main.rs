@@ -14,6 +14,7 @@ mod fields;
 mod images;
 mod large;
 mod layout;
+mod limits;
 mod memory;
 mod mistakes;
 mod plan;
@@ -105,6 +106,7 @@ fn parse(arguments: &[String]) -> Option<Options> {
 }
 
 fn test_archive(checks: &mut Checks, options: &Options) {
+    checks.check("the second reader's limits are those of pdi.h", limits::reader_agrees());
     test_bench(checks);
     checks.check("null pointers with length 0", null_with_length_0());
     test_generated(checks, options);
@@ -145,7 +147,7 @@ fn test_generated(checks: &mut Checks, options: &Options) {
 /// Whether the generated images reach what they are meant to reach.
 fn test_reach(checks: &mut Checks, tally: &Tally) {
     checks.check("every number is hit", tally.by_number.iter().all(|&count| count > 0));
-    let kinds = [tally.full, tally.partial, tally.with_entries, tally.of_one, tally.of_32, tally.out_of_order];
+    let kinds = [tally.full, tally.partial, tally.with_entries, tally.of_one, tally.of_most, tally.out_of_order];
     checks.check("every kind of accepted image is hit", kinds.iter().all(|&count| count > 0));
     checks.check("every deliberate damage reaches its rule and partition", tally.aimed == tally.hit);
     checks.check("valid images have the rows planned", tally.rows_as_planned > 0 && tally.rows_otherwise == 0);

@@ -4,7 +4,8 @@
 //! a difference only there.
 
 use crate::archive::Subject;
-use crate::fields::{get, partition, table, BLOCK_LENGTH, BLOCK_OFFSET, HEADER};
+use crate::fields::{block_bytes, get, partition, table, BLOCK_LENGTH, BLOCK_OFFSET, HEADER};
+use crate::limits::{HEAD, MOST_ENTRIES, MOST_PARTITIONS, ROW, ROWS_BYTES};
 use crate::reader;
 
 pub struct Mistaken {
@@ -46,7 +47,7 @@ pub const MISTAKES: [Mistaken; 21] = [
     reads("touching load ranges refused", touching),
     reads("a load range up to 2^64 refused", top_of_memory),
     reads("a hash block in a span's padding refused", block_in_padding),
-    reads("a hash block of 33 entries refused", block_of_33),
+    reads("a hash block of the most entries refused", longest_block),
     reads("an index twice in a block accepted", index_twice),
     reads("the table's own block not looked at", own_block),
     reads("p left out", without_p),
@@ -65,7 +66,7 @@ fn headers(image: &[u8], place: u64) -> Vec<usize> {
     let Some(at) = usize::try_from(place).ok().filter(|at| at.saturating_add(HEADER) <= image.len()) else { return Vec::new() };
     let mut next = get(image, at + table::FIRST_HEADER);
     let mut found = Vec::new();
-    for _ in 0..get(image, at + table::PARTITIONS).min(32) {
+    for _ in 0..get(image, at + table::PARTITIONS).min(MOST_PARTITIONS as u32) {
         let header = 4 * next as usize;
         if header + HEADER > image.len() {
             break;
@@ -99,7 +100,7 @@ fn accept_if(image: &[u8], place: u64, rows: &mut [u8], number: u64, errs: impl 
 
 /// Refuses what is accepted, and leaves the rows, where `errs` gives an answer.
 fn refuse_if(image: &[u8], place: u64, rows: &mut [u8], errs: impl Fn() -> Option<u64>) -> u64 {
-    match reader::bill(image, place) != 0 && rows.len() >= 2080 {
+    match reader::bill(image, place) != 0 && rows.len() >= ROWS_BYTES {
         true => errs().unwrap_or_else(|| reader::read(image, place, rows)),
         false => reader::read(image, place, rows),
     }
@@ -166,9 +167,9 @@ fn block_in_padding(image: &[u8], place: u64, rows: &mut [u8]) -> u64 {
     })
 }
 
-fn block_of_33(image: &[u8], place: u64, rows: &mut [u8]) -> u64 {
+fn longest_block(image: &[u8], place: u64, rows: &mut [u8]) -> u64 {
     refuse_if(image, place, rows, || {
-        let long = |&header: &usize| field(image, header, BLOCK_LENGTH) == 1728;
+        let long = |&header: &usize| field(image, header, BLOCK_LENGTH) == block_bytes(MOST_ENTRIES) as u64;
         headers(image, place).iter().position(long).map(|i| 64 * 17 + i as u64 + 1)
     })
 }
@@ -202,7 +203,7 @@ fn rows_on_refusal(image: &[u8], place: u64, rows: &mut [u8]) -> u64 {
 fn one_too_many(image: &[u8], place: u64, rows: &mut [u8]) -> u64 {
     let answer = reader::read(image, place, rows);
     if answer == 0 {
-        let end = 8 * (4 + 8 * headers(image, place).len());
+        let end = 8 * (HEAD + ROW * headers(image, place).len());
         rows.iter_mut().skip(end).take(8).for_each(|byte| *byte = 0);
     }
     answer
@@ -211,7 +212,7 @@ fn one_too_many(image: &[u8], place: u64, rows: &mut [u8]) -> u64 {
 fn big_endian(image: &[u8], place: u64, rows: &mut [u8]) -> u64 {
     let answer = reader::read(image, place, rows);
     if answer == 0 {
-        let numbers = 4 + 8 * headers(image, place).len();
+        let numbers = HEAD + ROW * headers(image, place).len();
         rows.chunks_exact_mut(8).take(numbers).for_each(|number| number.reverse());
     }
     answer

@@ -2,7 +2,8 @@
 //!
 //! Every value that the rules allow can come out, and those at the edge of a rule come out often. `layout.rs` gives the places.
 
-use crate::fields::{block_bytes, COMMON, KEYS};
+use crate::fields::{block_bytes, COMMON, KEYS, MOST_IMAGES};
+use crate::limits::{MOST_ENTRIES, MOST_PARTITIONS};
 use crate::random::Random;
 
 pub struct Partition {
@@ -62,7 +63,7 @@ impl Plan {
         let count = partition_count(random).max(wish.partitions);
         let mut plan = Plan {
             full,
-            images: random.pick(&[1, 1, 2, 32, 0]),
+            images: random.pick(&[1, 1, 2, MOST_IMAGES, 0]),
             size: random.pick(&[1, 16, 16, 16, 0]),
             optional: 4 * random.pick(&[0, 0, 0, 1, 2, 7]),
             key,
@@ -82,7 +83,7 @@ impl Plan {
     /// Where the first choice was 0, any count; seldom the largest sizes, as these images are long.
     fn choose_sizes(&mut self, random: &mut Random) {
         if self.images == 0 {
-            self.images = random.between(1, 32) as u32;
+            self.images = random.between(1, MOST_IMAGES.into()) as u32;
         }
         if self.size == 0 {
             let largest = random.pick(&[24, 24, 24, 255]);
@@ -175,9 +176,9 @@ impl Block {
 fn partition_count(random: &mut Random) -> usize {
     match random.below(10) {
         0 | 1 => 1,
-        2 => 32,
+        2 => MOST_PARTITIONS,
         3..=6 => random.index(4) + 1,
-        _ => random.index(32) + 1,
+        _ => random.index(MOST_PARTITIONS) + 1,
     }
 }
 
@@ -230,8 +231,8 @@ fn choose_loads(random: &mut Random, partitions: &mut [Partition]) {
 fn choose_indexes(random: &mut Random, members: &[u32]) -> Vec<u32> {
     let n = match random.below(4) {
         0 | 1 => members.len(),
-        2 => random.between(members.len() as u64, 33) as usize,
-        _ => 33,
+        2 => random.between(members.len() as u64, MOST_ENTRIES as u64) as usize,
+        _ => MOST_ENTRIES,
     };
     let mut indexes = members.to_vec();
     while indexes.len() < n {

@@ -9,9 +9,15 @@ mod headers;
 
 use headers::{bits, none_meet, pairs, part, sum_of_words, word_at, Header, Range, Ranges, HEADER_BYTES};
 
-const LONGEST_IMAGE: usize = 1_073_741_824;
-const ROWS_BYTES: usize = 2_080;
-const MOST_PARTITIONS: usize = 32;
+pub const LONGEST_IMAGE: usize = 1_073_741_824;
+const MOST_IMAGES: u64 = 32;
+pub const MOST_PARTITIONS: usize = 32;
+/// Of a hash block: one for the table and one for each partition.
+pub const MOST_ENTRIES: usize = 33;
+/// The numbers of the head and of a row, 8 bytes each.
+pub const HEAD: usize = 4;
+pub const ROW: usize = 8;
+pub const ROWS_BYTES: usize = 8 * (HEAD + ROW * MOST_PARTITIONS);
 const BOOT_HEADER_BYTES: u64 = 4_416;
 const ENTRY_BYTES: u64 = 52;
 const DIGEST_BYTES: u64 = 48;
@@ -70,9 +76,9 @@ impl<'a> Accepted<'a> {
 
     fn write(&self, rows: &mut [u8]) {
         let kind = if self.table.is_full() { 1 } else { 2 };
-        let (head, rest) = rows.split_at_mut(4 * 8);
+        let (head, rest) = rows.split_at_mut(8 * HEAD);
         write_numbers(head, &[kind, self.table.images(), self.count as u64, self.billed()]);
-        for ((row, header), &entry) in rest.chunks_exact_mut(8 * 8).zip(self.partitions()).zip(&self.entries) {
+        for ((row, header), &entry) in rest.chunks_exact_mut(8 * ROW).zip(self.partitions()).zip(&self.entries) {
             let span = header.span();
             let (load, execution) = (header.load_address(), header.execution_address());
             let (loaded, key, attributes) = (4 * header.unencrypted(), header.key().into(), header.attributes().into());
@@ -152,8 +158,8 @@ fn rule_5(table: &Header) -> bool {
 
 fn rule_6(table: &Header) -> bool {
     let sizes = table.word(0x2C);
-    (1..=32).contains(&table.images())
-        && (1..=32).contains(&table.partitions())
+    (1..=MOST_IMAGES).contains(&table.images())
+        && (1..=MOST_PARTITIONS as u64).contains(&table.partitions())
         && bits(sizes, 7, 0) == 32
         && bits(sizes, 15, 8) != 0
         && bits(sizes, 23, 16) == 32
@@ -282,16 +288,16 @@ fn hash_entry(image: &[u8], owner: &Header, own_index: u32) -> Option<u64> {
     own.next().is_none().then_some(range.start + ENTRY_BYTES * first)
 }
 
-/// The n of 1 to 33 whose 52n, rounded up to a multiple of 16, is this length. Rounding adds less than an entry, so n is length / 52.
+/// The n from 1 to 33 whose 52n, rounded up to a multiple of 16, is this length. Rounding adds less than an entry, so n is length / 52.
 fn entry_count(length: u64) -> Option<u64> {
     let n = length / ENTRY_BYTES;
-    ((1..=33).contains(&n) && (ENTRY_BYTES * n).next_multiple_of(16) == length).then_some(n)
+    ((1..=MOST_ENTRIES as u64).contains(&n) && (ENTRY_BYTES * n).next_multiple_of(16) == length).then_some(n)
 }
 
 fn rule_18(table: &Header, partitions: &[Header]) -> bool {
-    let mut tables: Ranges<35> = Ranges::none();
-    let (mut spans, mut bodies): (Ranges<32>, Ranges<32>) = (Ranges::none(), Ranges::none());
-    let mut blocks: Ranges<33> = Ranges::none();
+    let mut tables: Ranges<{ 3 + MOST_PARTITIONS }> = Ranges::none();
+    let (mut spans, mut bodies): (Ranges<MOST_PARTITIONS>, Ranges<MOST_PARTITIONS>) = (Ranges::none(), Ranges::none());
+    let mut blocks: Ranges<MOST_ENTRIES> = Ranges::none();
     if table.is_full() {
         tables.add(Range::from(0, BOOT_HEADER_BYTES));
     }

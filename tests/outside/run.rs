@@ -8,6 +8,7 @@ use crate::compare::{compare, first_difference, shown, Difference, Lent, Rows, W
 use crate::damage::Aim;
 use crate::images::{make, Sample};
 use crate::layout::Image;
+use crate::limits::{place, HASH_ENTRY, KIND, LAST_RULE, MOST_PARTITIONS, PARTITIONS};
 use crate::memory::Region;
 use crate::random::Random;
 
@@ -18,16 +19,16 @@ const LONGEST_LENT: usize = (1 << 32) + LARGEST_IMAGE;
 #[derive(Default)]
 pub struct Tally {
     pub fed: u64,
-    pub by_number: [u64; 20],
-    pub aimed: [u64; 20],
-    pub hit: [u64; 20],
+    pub by_number: [u64; LAST_RULE + 1],
+    pub aimed: [u64; LAST_RULE + 1],
+    pub hit: [u64; LAST_RULE + 1],
     pub rows_as_planned: u64,
     pub rows_otherwise: u64,
     pub full: u64,
     pub partial: u64,
     pub with_entries: u64,
     pub of_one: u64,
-    pub of_32: u64,
+    pub of_most: u64,
     pub out_of_order: u64,
     pub before_guard: u64,
     pub after_guard: u64,
@@ -173,12 +174,12 @@ impl Tally {
     }
 
     fn count_accepted(&mut self, sample: &Sample, rows: &Rows) {
-        let partitions = rows.number(2) as usize;
-        self.full += u64::from(rows.number(0) == 1);
-        self.partial += u64::from(rows.number(0) == 2);
-        self.with_entries += u64::from((0..partitions).any(|i| rows.number(4 + 8 * i + 6) != 0));
+        let partitions = rows.number(PARTITIONS) as usize;
+        self.full += u64::from(rows.number(KIND) == 1);
+        self.partial += u64::from(rows.number(KIND) == 2);
+        self.with_entries += u64::from((1..=partitions).any(|p| rows.number(place(p, HASH_ENTRY)) != 0));
         self.of_one += u64::from(partitions == 1);
-        self.of_32 += u64::from(partitions == 32);
+        self.of_most += u64::from(partitions == MOST_PARTITIONS);
         self.out_of_order += u64::from(sample.image.plan.is_out_of_order());
         if sample.as_planned {
             let planned = sample.image.plan.rows();
@@ -191,11 +192,12 @@ impl Tally {
     /// One line a number: how many images ended there, and how many were made to end there and did.
     pub fn print(&self) {
         println!("  number     images      aimed        hit");
-        for number in 0..20 {
+        for number in 0..=LAST_RULE {
             println!("  {number:6} {:10} {:10} {:10}", self.by_number[number], self.aimed[number], self.hit[number]);
         }
         println!("  accepted: {} full, {} partial, {} with hash entries", self.full, self.partial, self.with_entries);
-        println!("  accepted: {} of 1 partition, {} of 32, {} with headers out of order", self.of_one, self.of_32, self.out_of_order);
+        let (one, most, out_of_order) = (self.of_one, self.of_most, self.out_of_order);
+        println!("  accepted: {one} of 1 partition, {most} of {MOST_PARTITIONS}, {out_of_order} with headers out of order");
         let (before, after, longer) = (self.before_guard, self.after_guard, self.lent_longer);
         println!("  lent: {before} before an unreadable page, {after} after one, {longer} among zeros");
     }
