@@ -35,7 +35,7 @@ run: target/cli/foliobriar
 test:
 	@scripts/test
 
-bench: target/cli/foliobriar target/bench/bench
+bench: target/cli/foliobriar target/bench/bench target/bench/stack
 	@bench/run
 
 cli: target/cli/foliobriar
@@ -60,6 +60,10 @@ target/outside/outside: $(wildcard tests/outside/*.rs) include/pdi.h $(ARCHIVE)
 target/bench/bench: $(wildcard bench/*.rs tests/outside/*.rs) include/pdi.h $(ARCHIVE)
 	@mkdir -p $(@D)
 	$(RUSTC) $(OUTSIDE_FLAGS) -o $@ bench/bench.rs
+
+target/bench/stack: bench/stack.c include/pdi.h $(ARCHIVE)
+	@mkdir -p $(@D)
+	$(CC) -std=c11 -D_DEFAULT_SOURCE -Iinclude -Wall -Wextra -Werror -pedantic -O2 bench/stack.c $(ARCHIVE) -o $@
 
 install: target/cli/foliobriar
 	install -d -- "$$DESTDIR$$PREFIX/bin" "$$DESTDIR$$PREFIX/include" "$$DESTDIR$$PREFIX/lib/pkgconfig" \
