@@ -3,46 +3,20 @@
 Usage: images.py DIRECTORY
 
 Each image is NAME.pdi. cases.tsv has a line for each answer to expect: name, place, number, p. The bench image and its edits are those of
-document 01; a checksum is put right after an edit unless the edit is of the checksum itself. The words and offsets are written out here
-and not taken from the command's sources, so that a fault there can't hide. The limits are those of pdi.h, from the environment (limits.sh).
+document 01; a checksum is put right after an edit unless the edit is of the checksum itself. The limits are those of pdi.h, from the
+environment (limits.sh).
 """
 
 import os
 import pathlib
-import struct
 import sys
+
+sys.dont_write_bytecode = True  # nothing is left beside the sources
+from headers import put, put_boot_header, put_header, put_table, seal
 
 TABLE, HEADER = 0, 192  # where the bench image has them
 MOST = int(os.environ["PDI_MOST_PARTITIONS"])
 LONGEST = int(os.environ["PDI_LONGEST_IMAGE"])
-
-
-def put(image, offset, *words):
-    struct.pack_into(f"<{len(words)}I", image, offset, *words)
-
-
-def get(image, offset):
-    return struct.unpack_from("<I", image, offset)[0]
-
-
-def seal(image, offset):
-    """Puts the checksum of a table or partition header right."""
-    put(image, offset + 0x7C, sum(struct.unpack_from("<31I", image, offset)) & 0xFFFFFFFF)
-
-
-def put_table(image, place, *, kind=b"PPDI", images=1, image_headers, partitions=1, first):
-    put(image, place, 0x00010000, images, image_headers // 4, partitions, first // 4)
-    image[place + 0x28 : place + 0x2C] = kind
-    put(image, place + 0x2C, 0x00201020)
-    seal(image, place)
-
-
-def put_header(image, at, *, lengths, data, load, attributes=0x04000001, following=0, execution=0, key=0, block=(0, 0)):
-    """`lengths` are encrypted, unencrypted and total words; `data`, `following` and the block's offset are bytes."""
-    put(image, at, *lengths, following // 4, execution & 0xFFFFFFFF, execution >> 32, load & 0xFFFFFFFF, load >> 32, data // 4, attributes)
-    put(image, at + 0x44, key)
-    put(image, at + 0x60, block[0], block[1] // 4)
-    seal(image, at)
 
 
 def bench():
@@ -105,11 +79,14 @@ def spanned():
     return edited({HEADER: words, HEADER + 4: words, HEADER + 8: words})
 
 
-def many():
-    """As many partitions as may be, with values of many widths; each third has no load address, and each second its own hash block."""
-    first, blocks, data = 192, 192 + MOST * 128, 192 + MOST * 128 + MOST // 2 * 64
-    image = bytearray(data)
-    put_table(image, 0, image_headers=128, partitions=MOST, first=first)
+def many(table=0):
+    """As many partitions as may be, with values of many widths; each third has no load address, and each second its own hash block.
+
+    A full image where the table leaves room for a boot header."""
+    first = table + 192
+    blocks = first + MOST * 128
+    image = bytearray(blocks + MOST // 2 * 64)
+    put_table(image, table, kind=b"FPDI" if table else b"PPDI", image_headers=table + 128, partitions=MOST, first=first)
     for p in range(1, MOST + 1):
         at, start = first + 128 * (p - 1), len(image)
         image += bytes([p]) * (4 * p)
@@ -129,16 +106,15 @@ def many():
             key=0xC3A5C573 if p == 7 else 0,
             block=block,
         )
+    if table:
+        put_boot_header(image)
     return image
 
 
 def full(table=8192, plm_total=16):
     """A full image: boot header, PLM at 4416, table at `table`, one partition."""
     image = bytearray(table + 336)
-    put(image, 0x10, 0xAA995566)
-    image[0x14:0x18] = b"XNLX"
-    put(image, 0x18, 0, 4416, 0, 4, 4, 16, plm_total)
-    put(image, 0x113C, -sum(struct.unpack_from("<1099I", image, 0x10)) & 0xFFFFFFFF)
+    put_boot_header(image, plm_total)
     put_table(image, table, kind=b"FPDI", images=1, image_headers=table + 128, first=table + 192)
     put_header(image, table + 192, lengths=(4, 4, 4), data=table + 320, load=0xFFFC0000, execution=0xFFFC0010)
     image[table + 320 :] = bytes(range(16))
@@ -217,6 +193,7 @@ def cases():
     yield "large", large(), (0, 0, 0)
     yield "spanned", spanned(), (0, 15, 1)
     yield "many", many(), (0, 0, 0)
+    yield "full_many", many(table=8192), (8192, 0, 0), (0, 4, 0)
     yield "full", full(), (8192, 0, 0), (0, 4, 0)
     yield "full_bad", full(plm_total=15), (8192, 8, 0)
     yield "moved", moved(), (336, 0, 0)
