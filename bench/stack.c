@@ -1,8 +1,8 @@
 /* How much stack each call of the archive takes on one image: a line with the call's name and the bytes for each. usage: stack FILE PLACE
  *
- * A call runs on a stack of its own that holds the same byte everywhere; how deep another byte is found afterwards is what was used. The
- * frame around the call counts, a few bytes; what a call of nothing uses is taken off. Each call is made once before: the loader's search
- * for the C library's functions, which takes stack in the first call only, is no part of it. */
+ * A call runs on a stack of its own that holds the same byte everywhere. How far below the calling frame another byte is found afterwards
+ * is what was used, with the few bytes of that frame. Each call is made once before: the loader's search for the C library's functions,
+ * which takes stack in the first call only, is no part of it. */
 #include <inttypes.h>
 #include <stdio.h>
 #include <stdlib.h>
@@ -12,35 +12,45 @@
 
 #include "pdi.h"
 
-enum { STACK = 1 << 20 };
+enum { STACK = 1 << 20, KNOWN = 5000 };
 
 static uint8_t *stack;
+static uint8_t *frame;           /* of the function that makes the call */
 static uint8_t *image;
 static size_t length;
 static uint64_t place;
 static uint64_t answer;
 
-static void call_nothing(void)
+/* Its use is known, so it shows whether the measure is right. */
+static void call_known(void)
 {
+    volatile uint8_t bytes[KNOWN];
+    frame = __builtin_frame_address(0);
+    for (size_t i = 0; i < KNOWN; i++)
+        bytes[i] = 1;
+    answer = bytes[0];
 }
 
 static void call_read(void)
 {
     static uint8_t rows[PDI_ROWS_BYTES];
+    frame = __builtin_frame_address(0);
     answer = pdi_read(image, length, place, rows, sizeof rows);
 }
 
 static void call_bill(void)
 {
+    frame = __builtin_frame_address(0);
     answer = pdi_bill(image, length, place);
 }
 
 static void call_body_length(void)
 {
+    frame = __builtin_frame_address(0);
     answer = pdi_body_length(image, length, place, 1);
 }
 
-static size_t depth_over(uint8_t byte, void (*call)(void))
+static size_t used_over(uint8_t byte, void (*call)(void))
 {
     static ucontext_t here, there;
     memset(stack, byte, STACK);
@@ -52,17 +62,17 @@ static size_t depth_over(uint8_t byte, void (*call)(void))
     makecontext(&there, call, 0);
     if (swapcontext(&here, &there) != 0)
         abort();
-    size_t untouched = 0;
-    while (untouched < STACK && stack[untouched] == byte)
-        untouched++;
-    return STACK - untouched;
+    const uint8_t *deepest = stack;
+    while (deepest < frame && *deepest == byte)
+        deepest++;
+    return (size_t)(frame - deepest);
 }
 
 /* The deepest byte that is written may be the very byte that was there, but not for two bytes. */
-static size_t depth_of(void (*call)(void))
+static size_t used_by(void (*call)(void))
 {
-    size_t one = depth_over(0xA5, call);
-    size_t other = depth_over(0x5A, call);
+    size_t one = used_over(0xA5, call);
+    size_t other = used_over(0x5A, call);
     return one > other ? one : other;
 }
 
@@ -86,7 +96,7 @@ static void measure(const char *name, void (*call)(void), int accepts_with_0)
         fputs("stack: the image is refused, so nothing is measured\n", stderr);
         exit(2);
     }
-    printf("%s %zu\n", name, depth_of(call) - depth_of(call_nothing));
+    printf("%s %zu\n", name, used_by(call));
 }
 
 int main(int argc, char **argv)
@@ -98,6 +108,11 @@ int main(int argc, char **argv)
     stack = mmap(NULL, STACK, PROT_READ | PROT_WRITE, MAP_PRIVATE | MAP_ANONYMOUS, -1, 0);
     if (stack == MAP_FAILED)
         return 2;
+    size_t known = used_by(call_known);
+    if (known < KNOWN || known > KNOWN + 256) {
+        fprintf(stderr, "stack: %zu bytes are found where some %d are used, so nothing is measured\n", known, (int)KNOWN);
+        return 2;
+    }
     measure("pdi_read", call_read, 1);
     measure("pdi_bill", call_bill, 0);
     measure("pdi_body_length", call_body_length, 0);
