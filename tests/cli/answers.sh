@@ -70,7 +70,7 @@ p  span start  span length  loaded  load address  execution address         key 
     same "all rows as wide as the titles" 1 "$(tail -n +2 out | awk '{print length}' | sort -u | wc -l)"
     same "each third without a load address" $((p / 3)) "$(tail -n +3 out | awk '$5 == "-"' | wc -l)"
     same "each second without a hash entry" $((p - p / 2)) "$(tail -n +3 out | awk '$8 == "-"' | wc -l)"
-    row=$(printf '%d 0x%x %d %d 0x%x 0x%x 0x00000000 0x%x 0x01000000' $p $((192 + 128 * p + 64 * (p / 2) + 2 * p * (p - 1))) $((4 * p)) \
+    row=$(printf '%d 0x%x %d %d 0x%x 0x%x 0x00000000 0x%x 0x01000000' "$p" $((192 + 128 * p + 64 * (p / 2) + 2 * p * (p - 1))) $((4 * p)) \
         $((4 * p)) $((p << (p + 25))) $((p < 32 ? (1 << 2 * p) - 1 : -1)) $((192 + 128 * p + 64 * (p / 2 - 1))))
     same "the widest row" "$row" "$(tail -1 out | tr -s ' ')"
 }
