@@ -1,6 +1,6 @@
 /* The refusal numbers in plain words, those of docs/RULES.md row for row; a test compares them. The words are plain ASCII, for any
- * terminal, and have neither quotation marks nor backslashes, so that they can stand in a JSON string as they are. A test compares the limits
- * that they state with pdi.h. */
+ * terminal, and have neither quotation marks nor backslashes, so that they can stand in a JSON string as they are. A test compares the
+ * limits that they state with pdi.h. */
 #include "rules.h"
 
 #include <stdio.h>

@@ -36,7 +36,7 @@ enum pdi_refusal {
     PDI_PARTITION_SPAN = 15,     /* the data, or the 48 bytes of their checksum, pass the image */
     PDI_LOAD_ADDRESS = 16,       /* the load range passes 2^64, or an address where none may be */
     PDI_HASH_BLOCK = 17,         /* its length, its place, or no single entry with its owner's index */
-    PDI_STORED_CLASH = 18,       /* two stored parts share bytes */
+    PDI_STORED_CLASH = 18,       /* two stored parts share bytes that must not */
     PDI_LOAD_CLASH = 19,         /* two partitions are loaded to one address */
     PDI_LAST_RULE = PDI_LOAD_CLASH /* the highest number */
 };
