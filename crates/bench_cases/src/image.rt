@@ -1,6 +1,8 @@
 // The bench image of document 01, and edits of its words. An image is held in 468 bytes, enough for the second partition; a case lends
 // the reader as many of them as it needs. Assumes nothing: a word that would not lie inside is not stored.
 
+ghost use Prim.Native.Nat.{_+_, _*_, _≤_};
+
 // The bytes of every case's image, and the room for them; those past a case's end are not lent.
 pub const ROOM: usize = 468;
 
@@ -36,13 +38,15 @@ pub(crate) fn store(image: &mut Image, at: usize, word: u32) {
 }
 
 // The checksum of the table or partition header at an offset.
-fn sum(image: &Image, at: usize) -> u32 {
+fn sum(image: &Image, at: usize) -> u32
+    requires { ⌜ at + 4 * 31 ≤ 468 ⌝ }
+{
     words::checksum(image, at, SUMMED)
 }
 
-// Puts right the checksum of the table or partition header at an offset.
+// Puts right the checksum of the table or partition header at an offset that leaves room for what it sums.
 pub(crate) fn put_right(image: &mut Image, at: usize) {
-    if at <= LENGTH {
+    if at <= ROOM - 4 * SUMMED {
         let word = sum(image, at);
         store(image, at + CHECKSUM, word);
     }

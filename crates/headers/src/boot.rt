@@ -1,7 +1,12 @@
 // The boot header, from image byte 0 on.
 ghost use mathlib.Core.Path.{_≡_};
-ghost use Rattle.pdi_spec.specs.Headers.{bootFrom};
+ghost use Prim.Native.Nat.{_≤_};
+ghost use lib.ListN.{length};
+ghost use Rattle.pdi_spec.specs.Headers.{bootFrom, bootSize};
+ghost use Rattle.pdi_spec.specs.Ranges.{bootRange};
 ghost use Rattle.headers.specs.Headers.{bootOf};
+ghost use Rattle.ranges.specs.Range.{rangeOf};
+use ranges::Range;
 
 const XNLX: [u8; 4] = *b"XNLX";
 
@@ -45,7 +50,19 @@ impl BootHeader {
 
     pub const CHECKSUMMED_WORDS: usize = 1099;
 
+    // Its bytes.
+    pub fn range() -> Range
+        ensures { λ r. ⌜ rangeOf r ≡ bootRange ⌝ }
+    {
+        Range {
+            start: 0,
+            size: Self::SIZE as u64,
+        }
+    }
+
+    // The boot header of an image that has room for one.
     pub fn read(image: &[u8]) -> BootHeader
+        requires { ⌜ bootSize ≤ length (now image) ⌝ }
         ensures { λ r. ⌜ bootOf r ≡ bootFrom (now (image .entry)) ⌝ }
     {
         BootHeader {

@@ -1,5 +1,8 @@
-// An entry of a hash block.
+// An entry of a hash block: a 4-byte index and a 48-byte digest.
 ghost use mathlib.Core.Path.{_≡_};
+ghost use Prim.Native.Nat.{_+_, _≤_};
+ghost use lib.ListN.{length};
+ghost use Rattle.pdi_spec.specs.HashBlock.{entrySize};
 ghost use Rattle.headers.specs.Headers.{entryFrom};
 use crate::field;
 
@@ -10,16 +13,18 @@ pub struct HashEntry {
 }
 
 impl HashEntry {
-    // Its size, and the offset and size of its parts, in bytes.
-    pub const SIZE: usize = 52;
-
+    // The offset of its parts, the digest's size, and its own size, in bytes.
     pub const INDEX: usize = 0;
 
     pub const DIGEST: usize = 4;
 
     pub const DIGEST_SIZE: usize = 48;
 
+    pub const SIZE: usize = Self::DIGEST + Self::DIGEST_SIZE;
+
+    // The entry at a byte offset.
     pub fn read(image: &[u8], at: usize) -> HashEntry
+        requires { ⌜ at + entrySize ≤ length (now image) ⌝ }
         ensures { λ r. ⌜ r ≡ entryFrom (now (image .entry)) at ⌝ }
     {
         HashEntry {

@@ -1,5 +1,5 @@
-// The table, a partition header, the boot header and a hash block's entry: sizes, offsets and by-value readings. Every reading is total:
-// an offset may be any number, and a byte past the end reads as 0.
+// The table, a partition header, the boot header, a hash block and its entries: sizes, offsets, by-value readings and the ranges that they
+// name. What is read lies inside the image: a rule has said so before.
 mod attributes;
 mod block;
 mod boot;
@@ -15,3 +15,8 @@ pub use entry::HashEntry;
 pub use partition::PartitionHeader;
 pub use table::HeaderSizes;
 pub use table::TableHeader;
+
+// Rule 6: the most images, and the most partitions.
+pub const MOST_IMAGES: u32 = 32;
+
+pub const MOST_PARTITIONS: usize = 32;

@@ -1,11 +1,22 @@
 // A partition header.
 ghost use mathlib.Core.Path.{_≡_};
-ghost use Rattle.pdi_spec.specs.Headers.{headerFrom};
-ghost use Rattle.pdi_spec.specs.Ranges.{loadAddressOf};
+ghost use Prim.Native.Nat.{_+_, _*_, _^_, _≤_};
+ghost use lib.ListN.{length};
+ghost use Rattle.pdi_spec.specs.Headers.{headerFrom, headerSize};
+ghost use Rattle.pdi_spec.specs.Ranges.{bodyOf, headerRange, loadRangeOf, spanOf};
 ghost use Rattle.headers.specs.Headers.{headerOf};
+ghost use Rattle.ranges.specs.Range.{rangeOf};
 use crate::attributes::Attributes;
 use crate::block::Block;
 use crate::field;
+use ranges::Range;
+
+// The number of two halves.
+fn joined(low: u32, high: u32) -> u64
+    ensures { λ r. ⌜ r ≡ low + 2 ^ 32 * high ⌝ }
+{
+    (low as u64) + 0x1_0000_0000 * (high as u64)
+}
 
 // A partition header, read at a byte offset.
 pub struct PartitionHeader {
@@ -73,7 +84,9 @@ impl PartitionHeader {
     // The words from the first on that the checksum sums.
     pub const CHECKSUMMED_WORDS: usize = 31;
 
+    // The header at a byte offset.
     pub fn read(image: &[u8], at: usize) -> PartitionHeader
+        requires { ⌜ at + headerSize ≤ length (now image) ⌝ }
         ensures { λ r. ⌜ headerOf r ≡ headerFrom (now (image .entry)) at ⌝ }
     {
         PartitionHeader {
@@ -82,7 +95,7 @@ impl PartitionHeader {
             unencrypted: field::word(image, at, Self::UNENCRYPTED),
             total: field::word(image, at, Self::TOTAL),
             next: field::word(image, at, Self::NEXT),
-            execution: field::joined(
+            execution: joined(
                 field::word(image, at, Self::EXECUTION_LOW),
                 field::word(image, at, Self::EXECUTION_HIGH),
             ),
@@ -104,9 +117,43 @@ impl PartitionHeader {
         }
     }
 
-    pub fn load_address(self) -> u64
-        ensures { λ r. ⌜ r ≡ loadAddressOf (headerOf self) ⌝ }
+    // The header's own bytes.
+    pub fn range(self) -> Range
+        ensures { λ r. ⌜ rangeOf r ≡ headerRange (headerOf self) ⌝ }
     {
-        field::joined(self.load_low, self.load_high)
+        Range {
+            start: self.at as u64,
+            size: Self::SIZE as u64,
+        }
+    }
+
+    // All stored bytes of the partition.
+    pub fn span(self) -> Range
+        ensures { λ r. ⌜ rangeOf r ≡ spanOf (headerOf self) ⌝ }
+    {
+        Range {
+            start: 4 * (self.data_offset as u64),
+            size: 4 * (self.total as u64),
+        }
+    }
+
+    // Its body: the first E words of them.
+    pub fn body(self) -> Range
+        ensures { λ r. ⌜ rangeOf r ≡ bodyOf (headerOf self) ⌝ }
+    {
+        Range {
+            start: 4 * (self.data_offset as u64),
+            size: 4 * (self.encrypted as u64),
+        }
+    }
+
+    // The addresses that a partition with a load address fills.
+    pub fn load_range(self) -> Range
+        ensures { λ r. ⌜ rangeOf r ≡ loadRangeOf (headerOf self) .addresses ⌝ }
+    {
+        Range {
+            start: (self.load_low as u64) + 0x1_0000_0000 * (self.load_high as u64),
+            size: 4 * (self.unencrypted as u64),
+        }
     }
 }

@@ -1,10 +1,14 @@
 // The image header table.
 ghost use mathlib.Core.Path.{_≡_};
-ghost use Prim.Native.Nat.{_+_};
-ghost use Rattle.pdi_spec.specs.Headers.{imageHeaderWordsOf, kindFrom, partitionHeaderWordsOf, tableFrom, tableWordsOf};
+ghost use Prim.Native.Nat.{_+_, _≤_};
+ghost use lib.ListN.{length};
+ghost use Rattle.pdi_spec.specs.Headers.{headerSize, imageHeaderWordsOf, kindFrom, partitionHeaderWordsOf, tableFrom, tableWordsOf};
+ghost use Rattle.pdi_spec.specs.Ranges.{imageHeaders, tableWithOptional};
 ghost use Rattle.headers.specs.Headers.{tableOf};
+ghost use Rattle.ranges.specs.Range.{rangeOf};
 use crate::block::Block;
 use crate::field;
+use ranges::Range;
 
 const FPDI: [u8; 4] = *b"FPDI";
 
@@ -34,18 +38,21 @@ pub struct TableHeader {
 
 // The three header sizes, in words.
 impl HeaderSizes {
+    // The table's.
     pub fn table_words(self) -> u32
         ensures { λ r. ⌜ r ≡ tableWordsOf (self .word) ⌝ }
     {
         self.word % 256
     }
 
+    // An image header's.
     pub fn image_header_words(self) -> u32
         ensures { λ r. ⌜ r ≡ imageHeaderWordsOf (self .word) ⌝ }
     {
         self.word / 0x100 % 256
     }
 
+    // A partition header's.
     pub fn partition_header_words(self) -> u32
         ensures { λ r. ⌜ r ≡ partitionHeaderWordsOf (self .word) ⌝ }
     {
@@ -55,6 +62,7 @@ impl HeaderSizes {
 
 // The kind by the four bytes of the kind string: 1 full, 2 partial, 0 neither.
 fn kind_of(image: &[u8], place: usize) -> u32
+    requires { ⌜ place + headerSize ≤ length (now image) ⌝ }
     ensures { λ r. ⌜ r ≡ kindFrom (now (image .entry)) (place + 0x28) ⌝ }
 {
     if field::spells(image, place, TableHeader::KIND, &FPDI) {
@@ -67,8 +75,10 @@ fn kind_of(image: &[u8], place: usize) -> u32
 }
 
 impl TableHeader {
-    // Its size, and the offset of each field that is read, in bytes.
-    pub const SIZE: usize = 128;
+    // Its size in words, and in bytes with the offset of each field that is read.
+    pub const WORDS: u32 = 32;
+
+    pub const SIZE: usize = 4 * (Self::WORDS as usize);
 
     pub const VERSION: usize = 0x0;
 
@@ -95,7 +105,9 @@ impl TableHeader {
     // The words from the first on that the checksum sums.
     pub const CHECKSUMMED_WORDS: usize = 31;
 
+    // The table at its place.
     pub fn read(image: &[u8], place: usize) -> TableHeader
+        requires { ⌜ place + headerSize ≤ length (now image) ⌝ }
         ensures { λ r. ⌜ tableOf r ≡ tableFrom (now (image .entry)) place ⌝ }
     {
         TableHeader {
@@ -114,6 +126,26 @@ impl TableHeader {
             block: Block::read(image, place),
             reserved: field::word(image, place, Self::RESERVED),
             checksum: field::word(image, place, Self::CHECKSUM),
+        }
+    }
+    // The table, and the optional data that follow it.
+    pub fn with_optional(self) -> Range
+        ensures { λ r. ⌜ rangeOf r ≡ tableWithOptional (tableOf self) ⌝ }
+    {
+        Range {
+            start: self.place as u64,
+            size: (Self::SIZE as u64) + 4 * (self.optional_words as u64),
+        }
+    }
+
+    // All image headers. At most 2^32 of 255 words, so that the products fit.
+    pub fn image_headers(self) -> Range
+        ensures { λ r. ⌜ rangeOf r ≡ imageHeaders (tableOf self) ⌝ }
+    {
+        let sizes = self.header_sizes;
+        Range {
+            start: 4 * (self.image_header_offset as u64),
+            size: 4 * ((self.images as u64) * (sizes.image_header_words() as u64)),
         }
     }
 }

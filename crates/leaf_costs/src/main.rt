@@ -1,5 +1,9 @@
 // What the leaves cost: calls one of them 1,000 times for each thousand asked, so that counted instructions of two runs give the cost of a
-// call. Standard input has a letter for the leaf, a digit for the thousands, and the bytes to read. It assumes nothing of them.
+// call. Standard input has a letter for the leaf, a digit for the thousands, and the bytes to read: with too few for every leaf at every
+// offset no leaf is called. It assumes nothing of them.
+ghost use Prim.Native.Nat.{_+_, _*_, _≤_};
+ghost use lib.ListN.{length};
+ghost use Rattle.pdi_spec.specs.Headers.{bootSize};
 use headers::BootHeader;
 use headers::HashEntry;
 use headers::PartitionHeader;
@@ -7,26 +11,32 @@ use headers::TableHeader;
 use libc::STDIN_FILENO;
 use libc::STDOUT_FILENO;
 
+// The offsets are the first words' of the bytes, so many of them; from each on there is room for a boot header, the most that a leaf reads.
+const OFFSETS: usize = 64;
+
+const ENOUGH: usize = 4 * OFFSETS + BootHeader::SIZE;
+
 fn main() {
     let mut buffer = io::large_buffer();
     let n = io::read_full(STDIN_FILENO, &mut buffer);
     let input = &buffer[..n];
-    let thousands = (words::byte_at(input, 1) % 16) as usize;
-    let sum = turns(
-        words::tail(input, 2),
-        words::byte_at(input, 0),
-        1000 * thousands,
-    );
+    let sum = if n < 2 + ENOUGH {
+        0
+    } else {
+        turns(&input[2..], input[0], 1000 * ((input[1] % 16) as usize))
+    };
     io::print_decimal(STDOUT_FILENO, sum as u64);
     io::write_all(STDOUT_FILENO, b"\n");
 }
 
 // Each turn reads at another offset, and each result counts, so that no call can be left out.
-fn turns(image: &[u8], leaf: u8, n: usize) -> u32 {
+fn turns(image: &[u8], leaf: u8, n: usize) -> u32
+    requires { ⌜ 4 * 64 + bootSize ≤ length (now image) ⌝ }
+{
     let mut sum: u32 = 0;
     let mut i: usize = 0;
     while i < n {
-        sum = added(sum, one(image, leaf, 4 * (i % 64)));
+        sum = added(sum, one(image, leaf, 4 * (i % OFFSETS)));
         i += 1;
     }
     sum
@@ -36,14 +46,16 @@ fn added(a: u32, b: u32) -> u32 {
     std::num::wrapping_add_u32(a, b)
 }
 
-fn one(image: &[u8], leaf: u8, at: usize) -> u32 {
+fn one(image: &[u8], leaf: u8, at: usize) -> u32
+    requires { ⌜ at + bootSize ≤ length (now image) ⌝ }
+{
     match leaf {
         b'w' => words::word_at(image, at),
         b'c' => words::checksum(image, at, 1099),
         b's' => words::checksum(image, at, 31),
         b'p' => partition(PartitionHeader::read(image, at)),
         b't' => table(TableHeader::read(image, at)),
-        b'b' => boot(BootHeader::read(words::tail(image, at))),
+        b'b' => boot(BootHeader::read(&image[at..])),
         b'e' => entry(HashEntry::read(image, at)),
         _ => (at % 256) as u32,
     }

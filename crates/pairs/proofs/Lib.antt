@@ -1,2 +1,3 @@
-pub mod Searches
-pub mod Told
+-- Laws for the proofs here and in clash_rules. Assumes nothing.
+pub mod Arrays
+pub mod Following

@@ -2,9 +2,16 @@
 ghost use Prim.Native.Nat.{_≤_};
 ghost use mathlib.Core.Path.{_≡_};
 ghost use lib.ListN.{length};
+ghost use Rattle.pdi_spec.specs.Limits.{mostPartitions};
 use envelope::Opened;
 use libc::STDIN_FILENO;
 use libc::STDOUT_FILENO;
+use reader::BUFFER;
+use reader::HEAD;
+use reader::ROW;
+
+// The rows that the row buffer has room for.
+const MOST: usize = (BUFFER - HEAD) / ROW;
 
 // The longest input is 65,536 bytes. One more shows that there are too many.
 fn input_buffer() -> [u8; 65537]
@@ -29,7 +36,7 @@ fn answer(input: &[u8]) {
 
 // Number and p; if accepted, the listing.
 fn show(image: &[u8], place: usize) {
-    let mut rows = [0u64; 260];
+    let mut rows = [0u64; BUFFER];
     let answer = reader::read(image, place, &mut rows);
     number(answer / 64, b' ');
     number(answer % 64, b'\n');
@@ -40,22 +47,22 @@ fn show(image: &[u8], place: usize) {
 
 // A line with the head, and one line a partition.
 fn listing(rows: &[u64]) {
-    line(rows, 0, 4);
+    line(rows, 0, HEAD);
     let n = partitions(rows);
     let mut p: usize = 0;
     while p < n {
-        let at = 4 + 8 * p;
-        line(rows, at, at + 8);
+        let at = HEAD + ROW * p;
+        line(rows, at, at + ROW);
         p += 1;
     }
 }
 
-// The head's third number, at most 32.
+// The head's third number, at most the rows that there is room for.
 fn partitions(rows: &[u64]) -> usize
-    ensures { λ r. ⌜ r ≤ 32 ⌝ }
+    ensures { λ r. ⌜ r ≤ mostPartitions ⌝ }
 {
-    let n = number_at(rows, 2);
-    if n < 32 { n as usize } else { 32 }
+    let n = number_at(rows, 2) as usize;
+    if n < MOST { n } else { MOST }
 }
 
 // The numbers from one index up to another, one space between them.

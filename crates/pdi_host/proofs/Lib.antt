@@ -1,2 +1,2 @@
-pub mod Stored
-pub mod Answered
+pub mod Buffers
+pub mod Rows

@@ -1,17 +1,24 @@
 // The calls for C: read, bill and the length of a body, on numbers and byte slices. The row buffer lies in bytes, 8 to a number,
 // little-endian. A slice is a pointer and a length to C; include/pdi.h declares the calls.
-ghost use Prim.Native.Nat.{_≤_};
+ghost use Prim.Native.Nat.{_*_, _≤_};
 ghost use mathlib.Core.List.{[], _∷_, flatMap};
 ghost use mathlib.Core.Path.{_≡_};
 ghost use lib.ListN.{length, take};
 ghost use lib.Seq.{sets};
 ghost use Rattle.pdi_spec.specs.Answers.{billAnswer, bodyAnswer, readAnswer};
 ghost use Rattle.pdi_spec.specs.Host.{hostAnswer, hostRows, leBytes};
+ghost use Rattle.pdi_spec.specs.Limits.{numberBytes};
+use reader::BUFFER;
+use reader::HEAD;
+use reader::ROW;
+
+// Rule 2: the bytes of a row buffer that serves, 8 to a number.
+const BYTES: usize = 8 * BUFFER;
 
 // Stores the first n numbers.
 fn put_numbers(rows: &mut [u8], numbers: &[u64], n: usize)
-    requires { ⌜ (n ≤ 260) × (n ≤ length (now numbers)) ⌝ }
-    ensures { λ _. ⌜ now (rows .exit) ≡ sets (now (rows .entry)) 0 (flatMap (leBytes 8) (take n (now (numbers .entry)))) ⌝ }
+    requires { ⌜ (numberBytes * n ≤ length (now rows)) × (n ≤ length (now numbers)) ⌝ }
+    ensures { λ _. ⌜ now (rows .exit) ≡ sets (now (rows .entry)) 0 (flatMap (leBytes numberBytes) (take n (now (numbers .entry)))) ⌝ }
 {
     let mut i: usize = 0;
     while i < n {
@@ -28,22 +35,25 @@ fn too_short(image: &[u8], place: usize) -> u64
     reader::read(image, place, &mut numbers)
 }
 
+// Read's answer; an acceptance stores the head and the rows, and changes no other byte of the row buffer.
 #[no_mangle]
 pub extern "C" fn pdi_read(image: &[u8], place: u64, rows: &mut [u8]) -> u64
-    ensures { λ r. ⌜ (r ≡ hostAnswer (now (image .entry)) place (now (rows .entry))) × (now (rows .exit) ≡ hostRows (now (image .entry)) place (now (rows .entry))) ⌝ }
+    ensures answers { λ r. ⌜ r ≡ hostAnswer (now (image .entry)) place (now (rows .entry)) ⌝ }
+    ensures writes { λ _. ⌜ now (rows .exit) ≡ hostRows (now (image .entry)) place (now (rows .entry)) ⌝ }
 {
-    if rows.len() < 2080 {
+    if rows.len() < BYTES {
         return too_short(image, place as usize);
     }
-    let mut numbers = [0u64; 260];
+    let mut numbers = [0u64; BUFFER];
     let answer = reader::read(image, place as usize, &mut numbers);
     if answer == 0 {
         let partitions = numbers[2] as usize;
-        put_numbers(rows, &numbers, 4 + 8 * partitions);
+        put_numbers(rows, &numbers, HEAD + ROW * partitions);
     }
     answer
 }
 
+// Bill's answer.
 #[no_mangle]
 pub extern "C" fn pdi_bill(image: &[u8], place: u64) -> u64
     ensures { λ r. ⌜ r ≡ billAnswer (now (image .entry)) place ⌝ }

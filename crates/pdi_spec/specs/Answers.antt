@@ -4,18 +4,19 @@ use Prim.Native.Nat.{ℕ, _+_, _*_}
 use mathlib.Core.Bool.{cond}
 use mathlib.Core.List.{List, [], _∷_, _++_, map, flatMap}
 use lib.ListN.{length, take, drop}
+use Rattle.pdi_spec.specs.Limits.{answerUnit}
 use Rattle.pdi_spec.specs.Lists.{sumOf}
-use Rattle.pdi_spec.specs.File.{File, table, partitions, partitionNumbers, header, blockOf}
+use Rattle.pdi_spec.specs.File.{File, table, partitions, partitionNumbers, header, hashBlock}
 use Rattle.pdi_spec.specs.HashBlock.{hashEntryIn}
 use Rattle.pdi_spec.specs.Ranges.{Range, span, body, loadRange}
 use Rattle.pdi_spec.specs.Verdict.{Rule, Outcome, accepted, refused, verdict}
 use Rattle.pdi_spec.specs.Rules.{notFrom}
-use Rattle.pdi_spec.specs.RuleList.{rules, readRules}
+use Rattle.pdi_spec.specs.RuleList.{plainRules, withoutBuffer, withRows}
 
 -- "answers 64 × number + p, with number 0 for accepted"
 unfoldable pub answer : Outcome → ℕ
 answer accepted = 0
-answer (refused number p) = 64 * number + p
+answer (refused number p) = answerUnit * number + p
 
 -- one thing where accepted, another where refused
 unfoldable pub ifAccepted : {A : Type 0} → Outcome → A → A → A
@@ -40,7 +41,7 @@ rowNumbers r =
 
 -- the hash entry of partition p
 unfoldable pub hashEntry : File → ℕ → ℕ
-hashEntry f p = hashEntryIn (f .bytes) (blockOf f p) p
+hashEntry f p = hashEntryIn (f .bytes) (hashBlock f p) p
 
 unfoldable pub rowOf : File → ℕ → Row
 rowOf f p =
@@ -67,6 +68,8 @@ head f = table f .kind ∷ table f .images ∷ partitions f ∷ billed f ∷ []
 unfoldable pub headAndRows : File → List ℕ
 headAndRows f = head f ++ flatMap (λ (p : ℕ). rowNumbers (rowOf f p)) (partitionNumbers f)
 
+-- ---- by any list of rules
+
 -- what a question with this list of rules writes: nothing where it refuses
 unfoldable pub written : List Rule → File → List ℕ
 written rs f = ifAccepted (verdict rs f) (headAndRows f) []
@@ -76,8 +79,8 @@ unfoldable pub rowsAfter : List Rule → File → List ℕ → List ℕ
 rowsAfter rs f rows = written rs f ++ drop (length (written rs f)) rows
 
 -- "Bill gives the billed bytes, 0 if refused."
-unfoldable pub billBy : List Rule → File → ℕ
-billBy rs f = ifAccepted (verdict rs f) (billed f) 0
+unfoldable pub billUnder : List Rule → File → ℕ
+billUnder rs f = ifAccepted (verdict rs f) (billed f) 0
 
 -- a part of the image
 unfoldable pub cut : Range → List ℕ → List ℕ
@@ -85,23 +88,37 @@ cut r bytes = take (r .size) (drop (r .start) bytes)
 
 -- "hands back the stored bytes of that partition as a part of the lent image. It is empty if the image is refused or p isn't
 -- 1 to N"
-unfoldable pub bodyBy : List Rule → File → ℕ → List ℕ
-bodyBy rs f p =
+unfoldable pub bodyUnder : List Rule → File → ℕ → List ℕ
+bodyUnder rs f p =
     ifAccepted (verdict rs f) (cond (notFrom 1 (partitions f) p) [] (cut (body f p) (f .bytes))) []
 
--- ---- the three questions, for any image, place, row buffer and p
+-- ---- questions, each given by its own rules of the image, for any image, place, row buffer and p
 
 abbrev pub asked : List ℕ → ℕ → File
 asked image place = record { bytes = image; place = place }
 
-unfoldable pub readAnswer : List ℕ → ℕ → List ℕ → ℕ
-readAnswer image place rows = answer (verdict (readRules (length rows)) (asked image place))
+unfoldable pub readBy : List Rule → List ℕ → ℕ → List ℕ → ℕ
+readBy own image place rows = answer (verdict (withRows (length rows) own) (asked image place))
 
-unfoldable pub readRows : List ℕ → ℕ → List ℕ → List ℕ
-readRows image place rows = rowsAfter (readRules (length rows)) (asked image place) rows
+unfoldable pub rowsBy : List Rule → List ℕ → ℕ → List ℕ → List ℕ
+rowsBy own image place rows = rowsAfter (withRows (length rows) own) (asked image place) rows
 
-unfoldable pub billAnswer : List ℕ → ℕ → ℕ
-billAnswer image place = billBy rules (asked image place)
+unfoldable pub billBy : List Rule → List ℕ → ℕ → ℕ
+billBy own image place = billUnder (withoutBuffer own) (asked image place)
 
-unfoldable pub bodyAnswer : List ℕ → ℕ → ℕ → List ℕ
-bodyAnswer image place p = bodyBy rules (asked image place) p
+unfoldable pub bodyBy : List Rule → List ℕ → ℕ → ℕ → List ℕ
+bodyBy own image place p = bodyUnder (withoutBuffer own) (asked image place) p
+
+-- ---- plain reading: the three questions of document 01
+
+abbrev pub readAnswer : List ℕ → ℕ → List ℕ → ℕ
+readAnswer = readBy plainRules
+
+abbrev pub readRows : List ℕ → ℕ → List ℕ → List ℕ
+readRows = rowsBy plainRules
+
+abbrev pub billAnswer : List ℕ → ℕ → ℕ
+billAnswer = billBy plainRules
+
+abbrev pub bodyAnswer : List ℕ → ℕ → ℕ → List ℕ
+bodyAnswer = bodyBy plainRules

@@ -7,8 +7,8 @@ use Rattle.pdi_spec.specs.Lists.{numbers}
 use Rattle.pdi_spec.specs.Words.{checksum}
 use Rattle.pdi_spec.specs.Host.{leBytes}
 use Rattle.pdi_spec.specs.Verdict.{verdict}
-use Rattle.pdi_spec.specs.RuleList.{rules, readRules}
-use Rattle.pdi_spec.specs.Answers.{answer, written, billBy, asked}
+use Rattle.pdi_spec.specs.RuleList.{plainRules, withoutBuffer, withRows}
+use Rattle.pdi_spec.specs.Answers.{answer, written, billUnder, asked}
 
 -- a word stored at a byte offset
 pub record Edit : Type 0 where
@@ -74,9 +74,9 @@ pub record Case : Type 0 where
 unfoldable pub seen : Case → Seen
 seen c =
     record {
-      answers = answer (verdict (readRules (c .rows)) (asked (c .image) (c .place)));
-      writes = written (readRules (c .rows)) (asked (c .image) (c .place));
-      bills = billBy rules (asked (c .image) (c .place));
+      answers = answer (verdict (withRows (c .rows) plainRules) (asked (c .image) (c .place)));
+      writes = written (withRows (c .rows) plainRules) (asked (c .image) (c .place));
+      bills = billUnder (withoutBuffer plainRules) (asked (c .image) (c .place));
     }
 
 -- refused with a number and a p

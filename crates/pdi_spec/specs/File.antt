@@ -35,6 +35,6 @@ unfoldable pub header : File → ℕ → Header
 header f p = headerFrom (f .bytes) (headerAt f p)
 
 -- the hash block that the table names (index 0, the meta header), or that header p names (index p)
-unfoldable pub blockOf : File → ℕ → Block
-blockOf f zero = table f .block
-blockOf f (suc p) = header f (suc p) .block
+unfoldable pub hashBlock : File → ℕ → Block
+hashBlock f zero = table f .block
+hashBlock f (suc p) = header f (suc p) .block

@@ -9,12 +9,15 @@ use Rattle.pdi_spec.specs.Headers.{Block}
 use Rattle.pdi_spec.specs.Words.{wordAt}
 
 -- "length and offset both 0: no block"
-unfoldable pub noBlock : Block → Bool
+abbrev pub noBlock : Block → Bool
 noBlock b = eqb (b .size) 0 && eqb (b .offset) 0
 
--- "entries of a 4-byte index and a 48-byte digest"
-unfoldable pub entrySize : ℕ
-entrySize = 52
+-- "entries of a 4-byte index and a 48-byte digest": 52 bytes
+abbrev pub digestSize : ℕ
+digestSize = 48
+
+abbrev pub entrySize : ℕ
+entrySize = 4 + digestSize
 
 -- "52n rounded up to a multiple of 16"
 unfoldable pub sizeOfEntries : ℕ → ℕ

@@ -6,9 +6,12 @@ use mathlib.Core.Bool.{Bool, cond}
 use mathlib.Core.List.{List, [], _∷_}
 use Rattle.pdi_spec.specs.Words.{wordAt, bits, spells}
 
--- the size in bytes of the table, and of a partition header
-unfoldable pub headerSize : ℕ
-headerSize = 128
+-- the size of the table, and of a partition header: in words, and in bytes
+abbrev pub headerWords : ℕ
+headerWords = 32
+
+abbrev pub headerSize : ℕ
+headerSize = 4 * headerWords
 
 -- "hash block length 0x60 and offset 0x64", in the table and in a partition header: the length in bytes, the offset in words
 pub record Block : Type 0 where
@@ -129,7 +132,7 @@ headerFrom bytes at =
 -- ---- the boot header (001)
 
 -- 0x0 up to and with the checksum word at 0x113C: 4,416 bytes
-unfoldable pub bootSize : ℕ
+abbrev pub bootSize : ℕ
 bootSize = 4416
 
 -- the identification string, as its bytes

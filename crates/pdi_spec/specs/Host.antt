@@ -4,8 +4,10 @@
 use Prim.Native.Nat.{ℕ, zero, suc, _/_, _%_}
 use mathlib.Core.List.{List, [], _∷_, _++_, flatMap}
 use lib.ListN.{length, drop}
-use Rattle.pdi_spec.specs.Verdict.{verdict}
-use Rattle.pdi_spec.specs.RuleList.{hostRules}
+use Rattle.pdi_spec.specs.Limits.{numberBytes}
+use Rattle.pdi_spec.specs.File.{File}
+use Rattle.pdi_spec.specs.Verdict.{Rule, verdict}
+use Rattle.pdi_spec.specs.RuleList.{plainRules, withHostRows}
 use Rattle.pdi_spec.specs.Answers.{answer, written, asked}
 
 -- the lowest n bytes of a number, the least first
@@ -14,13 +16,23 @@ leBytes zero number = []
 leBytes (suc n) number = number % 256 ∷ leBytes n (number / 256)
 
 -- what an acceptance writes, 8 bytes to a number
-unfoldable pub writtenBytes : ℕ → List ℕ → ℕ → List ℕ
-writtenBytes room image place = flatMap (leBytes 8) (written (hostRules room) (asked image place))
-
-unfoldable pub hostAnswer : List ℕ → ℕ → List ℕ → ℕ
-hostAnswer image place rows = answer (verdict (hostRules (length rows)) (asked image place))
+unfoldable pub writtenBytes : List Rule → File → List ℕ
+writtenBytes rs f = flatMap (leBytes numberBytes) (written rs f)
 
 -- the row buffer after a call: the first 8 × (4 + 8N) bytes, where accepted, and else as found
-unfoldable pub hostRows : List ℕ → ℕ → List ℕ → List ℕ
-hostRows image place rows =
-    writtenBytes (length rows) image place ++ drop (length (writtenBytes (length rows) image place)) rows
+unfoldable pub bytesAfter : List Rule → File → List ℕ → List ℕ
+bytesAfter rs f rows = writtenBytes rs f ++ drop (length (writtenBytes rs f)) rows
+
+-- a question in the host's form, given by its own rules of the image
+unfoldable pub hostReadBy : List Rule → List ℕ → ℕ → List ℕ → ℕ
+hostReadBy own image place rows = answer (verdict (withHostRows (length rows) own) (asked image place))
+
+unfoldable pub hostRowsBy : List Rule → List ℕ → ℕ → List ℕ → List ℕ
+hostRowsBy own image place rows = bytesAfter (withHostRows (length rows) own) (asked image place) rows
+
+-- plain reading
+abbrev pub hostAnswer : List ℕ → ℕ → List ℕ → ℕ
+hostAnswer = hostReadBy plainRules
+
+abbrev pub hostRows : List ℕ → ℕ → List ℕ → List ℕ
+hostRows = hostRowsBy plainRules

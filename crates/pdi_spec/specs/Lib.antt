@@ -9,12 +9,14 @@ pub mod Headers
 pub mod Host
 pub mod Keys
 pub mod Laws
+pub mod Limits
 pub mod Lists
 pub mod Loading
 pub mod Ranges
 pub mod RuleList
 pub mod Rules
 pub mod Stated
+pub mod Supported
 pub mod Twice
 pub mod Verdict
 pub mod Words

@@ -7,7 +7,7 @@ use lib.Dec.{leb, ltb, eqb}
 use Rattle.pdi_spec.specs.Lists.{numbers}
 use Rattle.pdi_spec.specs.Headers.{headerSize, bootSize, Block, Table, imageHeaderWordsOf, Header}
 use Rattle.pdi_spec.specs.Attributes.{hasLoadAddress}
-use Rattle.pdi_spec.specs.File.{File, table, isFull, partitions, partitionNumbers, header, blockOf}
+use Rattle.pdi_spec.specs.File.{File, table, isFull, partitions, partitionNumbers, header, hashBlock}
 use Rattle.pdi_spec.specs.HashBlock.{noBlock}
 
 -- `size` numbers from `start` on: positions of the image, or addresses
@@ -30,39 +30,39 @@ overlap a b = ltb (max (a .start) (b .start)) (min (endOf a) (endOf b))
 unfoldable pub sameRange : Range → Range → Bool
 sameRange a b = eqb (a .start) (b .start) && eqb (a .size) (b .size)
 
--- "past the image": the range's end is greater than the image's length
+-- "past the image": the range's end is greater than the limit, here the image's length
 unfoldable pub past : ℕ → Range → Bool
-past length r = ltb length (endOf r)
+past limit r = ltb limit (endOf r)
 
 -- ---- ranges of stored bytes
 
-unfoldable pub bootRange : Range
+abbrev pub bootRange : Range
 bootRange = record { start = 0; size = bootSize }
 
 -- the table alone, which rule 3 asks for
-unfoldable pub tableRange : ℕ → Range
+abbrev pub tableRange : ℕ → Range
 tableRange place = record { start = place; size = headerSize }
 
 -- "Optional data follow the table directly (our reading)."
-unfoldable pub tableWithOptional : Table → Range
+abbrev pub tableWithOptional : Table → Range
 tableWithOptional t = record { start = t .place; size = headerSize + 4 * t .optionalWords }
 
 -- "Image headers lie one after another, images × size words (our reading; 003 speaks of a list)."
-unfoldable pub imageHeaders : Table → Range
+abbrev pub imageHeaders : Table → Range
 imageHeaders t = record { start = 4 * t .imageHeaderOffset; size = 4 * (t .images * imageHeaderWordsOf (t .headerSizes)) }
 
-unfoldable pub headerRange : Header → Range
+abbrev pub headerRange : Header → Range
 headerRange h = record { start = h .at; size = headerSize }
 
 -- "Span: T words from D."
-unfoldable pub spanOf : Header → Range
+abbrev pub spanOf : Header → Range
 spanOf h = record { start = 4 * h .dataOffset; size = 4 * h .total }
 
 -- "Body: its first E words."
-unfoldable pub bodyOf : Header → Range
+abbrev pub bodyOf : Header → Range
 bodyOf h = record { start = 4 * h .dataOffset; size = 4 * h .encrypted }
 
-unfoldable pub blockRange : Block → Range
+abbrev pub blockRange : Block → Range
 blockRange b = record { start = 4 * b .offset; size = b .size }
 
 -- of partition p
@@ -92,7 +92,7 @@ blockRanges b = cond (noBlock b) [] (blockRange b ∷ [])
 
 -- the table's block, then each partition's; a block that two headers name stands here twice
 unfoldable pub hashBlocks : File → List Range
-hashBlocks f = flatMap (λ (i : ℕ). blockRanges (blockOf f i)) (numbers 0 (suc (partitions f)))
+hashBlocks f = flatMap (λ (i : ℕ). blockRanges (hashBlock f i)) (numbers 0 (suc (partitions f)))
 
 -- ---- load ranges
 
@@ -108,10 +108,10 @@ meet a b = overlap (a .addresses) (b .addresses)
 unfoldable pub loadsTo : LoadRange → ℕ → Bool
 loadsTo r address = within (r .addresses) address
 
-unfoldable pub loadAddressOf : Header → ℕ
+abbrev pub loadAddressOf : Header → ℕ
 loadAddressOf h = h .loadLow + 2 ^ 32 * h .loadHigh
 
-unfoldable pub loadRangeOf : Header → LoadRange
+abbrev pub loadRangeOf : Header → LoadRange
 loadRangeOf h = record { addresses = record { start = loadAddressOf h; size = 4 * h .unencrypted } }
 
 -- of partition p: whether it has a load address, and its load range

@@ -1,7 +1,9 @@
--- Document 01's table of rules as lists: number, condition, and by its kind the p's that it is tried at. Assumes nothing.
+-- Document 01's table of rules: each row by its number, with its condition and by its kind the p's that it is tried at; and the lists
+-- that questions are given by. Assumes nothing.
 use Prim.Native.Nat.{ℕ}
 use mathlib.Core.Bool.{Bool}
 use mathlib.Core.List.{List, [], _∷_, _++_}
+use Rattle.pdi_spec.specs.Limits.{bufferNumbers, bufferBytes}
 use Rattle.pdi_spec.specs.Headers.{Table, Header}
 use Rattle.pdi_spec.specs.File.{File, table, header}
 use Rattle.pdi_spec.specs.Verdict.{Rule, once, each, eachAndTable}
@@ -21,57 +23,107 @@ ofHeader bad f p = bad (header f p)
 abbrev pub withHeader : (List ℕ → Header → Bool) → File → ℕ → Bool
 withHeader bad f p = bad (f .bytes) (header f p)
 
--- rules 3 to 9, of the table, the boot header and the image headers
+-- ---- the table's rows
+
+abbrev pub rule1 : Rule
+rule1 = once 1 imageTooLong
+
+-- of a buffer that has `have`, where `least` serves
+abbrev pub rule2 : ℕ → ℕ → Rule
+rule2 least have = once 2 (bufferTooShort least have)
+
+abbrev pub rule3 : Rule
+rule3 = once 3 tableOutside
+
+abbrev pub rule4 : Rule
+rule4 = once 4 tableChecksumWrong
+
+abbrev pub rule5 : Rule
+rule5 = once 5 (ofTable kindUnknown)
+
+abbrev pub rule6 : Rule
+rule6 = once 6 (ofTable tableFieldsBad)
+
+abbrev pub rule7 : Rule
+rule7 = once 7 (ofTable tableKeyUnknown)
+
+abbrev pub rule8 : Rule
+rule8 = once 8 bootHeaderWrong
+
+abbrev pub rule9 : Rule
+rule9 = once 9 (withTable imageHeadersOutside)
+
+abbrev pub rule10 : Rule
+rule10 = each 10 chainBroken
+
+abbrev pub rule11 : Rule
+rule11 = each 11 (withHeader headerChecksumBad)
+
+abbrev pub rule12 : Rule
+rule12 = each 12 (ofHeader attributesBad)
+
+abbrev pub rule13 : Rule
+rule13 = each 13 (ofHeader keyUnknown)
+
+abbrev pub rule14 : Rule
+rule14 = each 14 (ofHeader lengthsBad)
+
+abbrev pub rule15 : Rule
+rule15 = each 15 (withHeader spanOutside)
+
+abbrev pub rule16 : Rule
+rule16 = each 16 (ofHeader loadAddressBad)
+
+abbrev pub rule17 : Rule
+rule17 = eachAndTable 17 hashBlockWrong
+
+abbrev pub rule18 : Rule
+rule18 = once 18 storedRangesClash
+
+abbrev pub rule19 : Rule
+rule19 = each 19 loadRangesClash
+
+-- ---- lists of them
+
+-- of the table, the boot header and the image headers
 unfoldable pub tableRules : List Rule
-tableRules =
-    once 3 tableOutside
-    ∷ once 4 tableChecksumWrong
-    ∷ once 5 (ofTable kindUnknown)
-    ∷ once 6 (ofTable tableFieldsBad)
-    ∷ once 7 (ofTable tableKeyUnknown)
-    ∷ once 8 bootHeaderWrong
-    ∷ once 9 (withTable imageHeadersOutside)
-    ∷ []
+tableRules = rule3 ∷ rule4 ∷ rule5 ∷ rule6 ∷ rule7 ∷ rule8 ∷ rule9 ∷ []
 
--- rule 10, the chain
-unfoldable pub chainRule : Rule
-chainRule = each 10 chainBroken
-
--- rules 11 to 16, each of one partition header alone
+-- of one partition header alone
 unfoldable pub headerRules : List Rule
-headerRules =
-    each 11 (withHeader headerChecksumBad)
-    ∷ each 12 (ofHeader attributesBad)
-    ∷ each 13 (ofHeader keyUnknown)
-    ∷ each 14 (ofHeader lengthsBad)
-    ∷ each 15 (withHeader spanOutside)
-    ∷ each 16 (ofHeader loadAddressBad)
-    ∷ []
+headerRules = rule11 ∷ rule12 ∷ rule13 ∷ rule14 ∷ rule15 ∷ rule16 ∷ []
 
--- rules 10 to 17, of the partition headers and the hash blocks
+-- of the partition headers and the hash blocks
 unfoldable pub partitionRules : List Rule
-partitionRules = chainRule ∷ headerRules ++ (eachAndTable 17 hashBlockWrong ∷ [])
+partitionRules = rule10 ∷ headerRules ++ (rule17 ∷ [])
 
--- rules 3 to 17
+-- rules 3 to 17, after which every range lies inside the image
 unfoldable pub readingRules : List Rule
 readingRules = tableRules ++ partitionRules
 
--- rules 18 and 19
+-- of the ranges that clash
 unfoldable pub clashRules : List Rule
-clashRules = once 18 storedRangesClash ∷ each 19 loadRangesClash ∷ []
+clashRules = rule18 ∷ rule19 ∷ []
+
+-- plain reading's rules of the image itself: 3 to 19
+unfoldable pub plainRules : List Rule
+plainRules = readingRules ++ clashRules
+
+-- ---- A question is given by the rules of the image itself that it tries, `own`. Before them comes rule 1, and rule 2 where it has a
+-- row buffer.
 
 -- "Bill and body have no row buffer, so number 2 doesn't arise there."
-unfoldable pub rules : List Rule
-rules = once 1 imageTooLong ∷ readingRules ++ clashRules
+unfoldable pub withoutBuffer : List Rule → List Rule
+withoutBuffer own = rule1 ∷ own
 
--- the list of a question with a buffer that has `have`, where `least` serves
-unfoldable pub bufferRules : ℕ → ℕ → List Rule
-bufferRules least have = once 1 imageTooLong ∷ once 2 (bufferTooShort least have) ∷ readingRules ++ clashRules
+-- a row buffer that has `have`, where `least` serves
+unfoldable pub withBuffer : ℕ → ℕ → List Rule → List Rule
+withBuffer least have own = rule1 ∷ rule2 least have ∷ own
 
--- read's list, for a row buffer of that many numbers
-unfoldable pub readRules : ℕ → List Rule
-readRules rows = bufferRules 260 rows
+-- with a row buffer of that many numbers
+unfoldable pub withRows : ℕ → List Rule → List Rule
+withRows rows own = withBuffer bufferNumbers rows own
 
--- the host's, for a row buffer of that many bytes: "number 2 there means under 2,080 bytes"
-unfoldable pub hostRules : ℕ → List Rule
-hostRules rows = bufferRules 2080 rows
+-- with the host's row buffer of that many bytes: "number 2 there means under 2,080 bytes"
+unfoldable pub withHostRows : ℕ → List Rule → List Rule
+withHostRows rows own = withBuffer bufferBytes rows own

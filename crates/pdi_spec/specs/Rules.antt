@@ -5,13 +5,14 @@ use mathlib.Core.Bool.{Bool, cond, not, _&&_, _||_}
 use mathlib.Core.List.{List, [], _∷_, _++_}
 use lib.ListN.{length}
 use lib.Dec.{ltb, eqb}
+use Rattle.pdi_spec.specs.Limits.{longestImage, mostImages, mostPartitions, mostEntries}
 use Rattle.pdi_spec.specs.Lists.{numbers, anyTrue, anyOf, anyPair, isIn}
 use Rattle.pdi_spec.specs.Words.{checksum, bootChecksum}
 use Rattle.pdi_spec.specs.Keys.{zeroOrCommon, zeroCommonOrUser}
-use Rattle.pdi_spec.specs.Headers.{Block, Table, tableWordsOf, imageHeaderWordsOf, partitionHeaderWordsOf, Header, Boot, bootSize, bootFrom}
+use Rattle.pdi_spec.specs.Headers.{headerWords, Block, Table, tableWordsOf, imageHeaderWordsOf, partitionHeaderWordsOf, Header, Boot, bootSize, bootFrom}
 use Rattle.pdi_spec.specs.Attributes.{clusterOf, dpaOf, typeOf, reservedOf, tcmFlagOf, ownerOf, checksumTypeOf, cpuOf, lockstepOf, hasLoadAddress}
-use Rattle.pdi_spec.specs.File.{File, table, isFull, partitions, header, blockOf}
-use Rattle.pdi_spec.specs.HashBlock.{noBlock, sizeOfEntries, entriesIn, ownEntries}
+use Rattle.pdi_spec.specs.File.{File, table, isFull, partitions, header, hashBlock}
+use Rattle.pdi_spec.specs.HashBlock.{digestSize, noBlock, sizeOfEntries, entriesIn, ownEntries}
 use Rattle.pdi_spec.specs.Ranges.{Range, past, overlap, sameRange, tableRange, tableWithOptional, imageHeaders, headerRange, spanOf, blockRange, spans, bodies, headerRanges, hashBlocks, meet, loads, loadRange, loadRangeOf, addressSpace}
 
 -- not `low` to `high`
@@ -20,7 +21,7 @@ notFrom low high n = ltb n low || ltb high n
 
 -- 1: "image longer than 1,073,741,824 bytes"
 unfoldable pub imageTooLong : File → Bool
-imageTooLong f = ltb 1073741824 (length (f .bytes))
+imageTooLong f = ltb longestImage (length (f .bytes))
 
 -- 2: "row buffer under 260 numbers"; the host's is measured in bytes: `least` is the least that serves
 unfoldable pub bufferTooShort : ℕ → ℕ → File → Bool
@@ -43,11 +44,11 @@ kindUnknown t = not (eqb (t .version) 0x00010000) || eqb (t .kind) 0
 unfoldable pub tableFieldsBad : Table → Bool
 tableFieldsBad t =
     anyTrue
-    (notFrom 1 32 (t .images)
-    ∷ notFrom 1 32 (t .partitions)
-    ∷ not (eqb (tableWordsOf (t .headerSizes)) 32)
+    (notFrom 1 mostImages (t .images)
+    ∷ notFrom 1 mostPartitions (t .partitions)
+    ∷ not (eqb (tableWordsOf (t .headerSizes)) headerWords)
     ∷ eqb (imageHeaderWordsOf (t .headerSizes)) 0
-    ∷ not (eqb (partitionHeaderWordsOf (t .headerSizes)) 32)
+    ∷ not (eqb (partitionHeaderWordsOf (t .headerSizes)) headerWords)
     ∷ not (eqb (t .optionalWords % 4) 0)
     ∷ not (eqb (t .reserved) 0)
     ∷ [])
@@ -136,7 +137,7 @@ lengthsBad h =
 unfoldable pub spanOutside : List ℕ → Header → Bool
 spanOutside bytes h =
     past (length bytes) (spanOf h)
-    || (eqb (checksumTypeOf (h .attributes)) 3 && past (length bytes) (record { start = 4 * h .checksumOffset; size = 48 }))
+    || (eqb (checksumTypeOf (h .attributes)) 3 && past (length bytes) (record { start = 4 * h .checksumOffset; size = digestSize }))
 
 -- 16: "types 2, 3, 6, 7 hold 0xFFFFFFFF in both halves [..]. Types 1, 4, 5 have the range of 4U bytes at the address; its end
 -- must be at most 2^64." Rule 12 has refused type 0.
@@ -153,7 +154,7 @@ hashBlockBad bytes i b =
     anyTrue
     (eqb (b .size) 0
     ∷ eqb (b .offset) 0
-    ∷ notFrom 1 33 (entriesIn (b .size))
+    ∷ notFrom 1 mostEntries (entriesIn (b .size))
     ∷ not (eqb (b .size) (sizeOfEntries (entriesIn (b .size))))
     ∷ past (length bytes) (blockRange b)
     ∷ not (eqb (ownEntries bytes b i) 1)
@@ -161,7 +162,7 @@ hashBlockBad bytes i b =
 
 -- 17: "length and offset both 0: no block"
 unfoldable pub hashBlockWrong : File → ℕ → Bool
-hashBlockWrong f i = not (noBlock (blockOf f i)) && hashBlockBad (f .bytes) i (blockOf f i)
+hashBlockWrong f i = not (noBlock (hashBlock f i)) && hashBlockBad (f .bytes) i (hashBlock f i)
 
 -- 18: "these are disjoint: the boot header (full only), table with optional data, image headers, each partition header, each
 -- span. Each hash block is disjoint from all of them but spans, and from each body. Two hash blocks are equal or disjoint."

@@ -5,6 +5,7 @@ use Prim.Native.Nat.{ℕ, zero, suc, _+_, _*_}
 use mathlib.Core.Bool.{Bool}
 use mathlib.Core.List.{List}
 use lib.ListN.{getD}
+use Rattle.pdi_spec.specs.Limits.{headWidth, rowWidth}
 use Rattle.pdi_spec.specs.Lists.{numbers, anyOf, countOf, those}
 use Rattle.pdi_spec.specs.File.{File, partitions}
 use Rattle.pdi_spec.specs.Attributes.{hasLoadAddress}
@@ -24,7 +25,7 @@ byHeaders f = record { count = partitions f; span = Ranges.span f; loads = Range
 -- number k, counted from 0, of row p, counted from 1; there is no row 0
 unfoldable pub rowNumber : List ℕ → ℕ → ℕ → ℕ
 rowNumber rows zero k = 0
-rowNumber rows (suc p) k = getD rows (4 + 8 * p + k) 0
+rowNumber rows (suc p) k = getD rows (headWidth + rowWidth * p + k) 0
 
 -- the head's third number is N; a row's numbers 0 and 1 are its span, 3 and 2 its load address and loaded bytes, 7 its attributes
 unfoldable pub byRows : List ℕ → Stated
@@ -45,4 +46,4 @@ loadable s = those (s .loads) (partitionsOf s)
 
 -- how many positions, of an image of that length, lie in at least one span
 unfoldable pub inSpans : Stated → ℕ → ℕ
-inSpans s length = countOf (λ (x : ℕ). anyOf (λ (p : ℕ). within (s .span p) x) (partitionsOf s)) (numbers 0 length)
+inSpans s positions = countOf (λ (x : ℕ). anyOf (λ (p : ℕ). within (s .span p) x) (partitionsOf s)) (numbers 0 positions)

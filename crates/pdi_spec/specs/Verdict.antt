@@ -2,9 +2,9 @@
 -- "The lowest broken number is answered, with the smallest p that breaks it. A rule is tried only if all lower ones hold for
 -- every partition."
 use Prim.Native.Nat.{ℕ, suc}
-use mathlib.Core.Bool.{Bool, true, false}
+use mathlib.Core.Bool.{Bool, true, false, cond}
 use mathlib.Core.List.{List, [], _∷_, _++_, List·Mem}
-use mathlib.Core.Option.{Option·elim}
+use mathlib.Core.Option.{Option, none, some, Option·elim}
 use mathlib.Core.Path.{_≡_}
 use Rattle.pdi_spec.specs.Lists.{numbers, firstOf}
 use Rattle.pdi_spec.specs.File.{File, partitions, partitionNumbers}
@@ -36,6 +36,11 @@ verdict [] f = accepted
 verdict (r ∷ rs) f =
     let later = verdict rs f in
     Option·elim (firstOf (r .broken f) (r .tried f)) later (refused (r .number))
+
+-- the number of the first rule of the list that is broken at p
+unfoldable pub firstBroken : List Rule → File → ℕ → Option ℕ
+firstBroken [] f p = none
+firstBroken (r ∷ rs) f p = let later = firstBroken rs f p in cond (r .broken f p) (some (r .number)) later
 
 -- ---- what the claims say of a verdict
 

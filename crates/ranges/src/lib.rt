@@ -1,7 +1,7 @@
 // Ranges of numbers, as positions of the image or addresses. A range's end may be over 2^64, so no function adds start and size.
 ghost use mathlib.Core.Path.{_≡_};
 ghost use Rattle.pdi_spec.specs.Ranges.{addressSpace, overlap, past, sameRange};
-ghost use Rattle.ranges.specs.Range.{lastNumber, rangeOf};
+ghost use Rattle.ranges.specs.Range.{endsBefore, rangeOf};
 
 // `size` numbers from `start` on.
 pub struct Range {
@@ -25,17 +25,14 @@ pub fn overlap(a: Range, b: Range) -> bool
     0 < a.size
 }
 
-// The last number of a range, or its start where it is empty; the greatest u64 where that is less.
-pub fn last(a: Range) -> u64
-    ensures { λ r. ⌜ r ≡ lastNumber (rangeOf a) ⌝ }
+// The first range ends at or before the second's start.
+pub fn before(a: Range, b: Range) -> bool
+    ensures { λ r. ⌜ r ≡ endsBefore (rangeOf a) (rangeOf b) ⌝ }
 {
-    let after = if a.size == 0 { 0 } else { a.size - 1 };
-    if 0xFFFF_FFFF_FFFF_FFFF - a.start < after {
-        return 0xFFFF_FFFF_FFFF_FFFF;
-    }
-    a.start + after
+    a.start <= b.start && a.size <= b.start - a.start
 }
 
+// The two ranges are equal.
 pub fn same(a: Range, b: Range) -> bool
     ensures { λ r. ⌜ r ≡ sameRange (rangeOf a) (rangeOf b) ⌝ }
 {

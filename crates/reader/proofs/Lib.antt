@@ -1,6 +1,3 @@
-pub mod Core
-pub mod Joined
-pub mod Verdicts
+-- Laws for the proofs here. Assumes nothing.
 pub mod Questions
 pub mod Written
-pub mod Answered

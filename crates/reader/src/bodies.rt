@@ -1,24 +1,22 @@
 // Body: the stored bytes of one partition of an accepted image.
 ghost use mathlib.Core.Path.{_≡_};
 ghost use Rattle.pdi_spec.specs.Answers.{bodyAnswer};
-use crate::check::LONGEST;
-use crate::check::check;
-use rules::Stage;
+use chain_rules::header_at;
+use core::Reading;
+use core::check;
+use headers::MOST_PARTITIONS;
 
 // Empty for a refused image, and for a p that isn't 1 to N.
 pub fn body<'a>(image: &'a [u8], place: usize, p: usize) -> &'a [u8]
     ensures { λ r. ⌜ now r ≡ bodyAnswer (now (image .entry)) place p ⌝ }
 {
     let last = image.len();
-    if LONGEST < last {
-        return &image[last..];
-    }
-    let reading = check(image, place);
-    let stage = reading.stage;
-    let Stage::Checked = stage else {
+    let mut offsets = [0usize; MOST_PARTITIONS];
+    let mut entries = [0usize; MOST_PARTITIONS];
+    let reading = check(image, place, false, &mut offsets, &mut entries);
+    let Reading::Accepted(table, _) = reading else {
         return &image[last..];
     };
-    let table = reading.table;
     let n = table.partitions as usize;
     if p < 1 {
         return &image[last..];
@@ -26,8 +24,7 @@ pub fn body<'a>(image: &'a [u8], place: usize, p: usize) -> &'a [u8]
     if n < p {
         return &image[last..];
     }
-    let headers = reading.headers;
-    let h = headers[p - 1];
+    let h = header_at(image, table, &offsets, p - 1);
     let start = 4 * (h.data_offset as usize);
     let end = start + 4 * (h.encrypted as usize);
     &image[start..end]

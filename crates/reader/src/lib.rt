@@ -1,11 +1,12 @@
-// Read, bill and body: the three questions of document 01, over one core.
+// Read, bill and body: the three questions of document 01, over the core.
 mod billing;
 mod bodies;
-mod check;
 mod reading;
 mod rows;
 
 pub use billing::bill;
 pub use bodies::body;
-pub use check::Reading;
 pub use reading::read;
+pub use rows::BUFFER;
+pub use rows::HEAD;
+pub use rows::ROW;

@@ -1,47 +1,37 @@
 // Read: the answer of an image, and the row buffer of an accepted one.
 ghost use Prim.Native.Nat.{_<_};
 ghost use mathlib.Core.Path.{_≡_};
-ghost use Rattle.pdi_spec.specs.Answers.{readAnswer, readRows};
-ghost use Rattle.reader.specs.Core.{stageAnswer};
-use crate::billing::billed;
-use crate::check::LONGEST;
-use crate::check::check;
+ghost use Rattle.pdi_spec.specs.Answers.{answer, readAnswer, readRows};
+ghost use Rattle.core.specs.Readings.{outcomeOf};
+use crate::rows::BUFFER;
 use crate::rows::write;
-use rules::Stage;
+use core::Reading;
+use core::check;
+use headers::MOST_PARTITIONS;
 
-// 64 × number + p of a refusal, and 0 for a stage that checked.
-fn answer_of(stage: Stage) -> u64
-    requires { ⌜ stageAnswer stage < 2048 ⌝ }
-    ensures { λ r. ⌜ r ≡ stageAnswer stage ⌝ }
+// 64 × number + p of a refusal, 0 of an acceptance.
+fn answer_of(reading: Reading) -> u64
+    requires { ⌜ answer (outcomeOf reading) < 0x1_0000_0000 ⌝ }
+    ensures { λ r. ⌜ r ≡ answer (outcomeOf reading) ⌝ }
 {
-    match stage {
-        Stage::Refused(number, p) => 64 * number + p,
-        Stage::Checked => 0,
+    match reading {
+        Reading::Refused(number, p) => 64 * number + p,
+        Reading::Accepted(_, _) => 0,
     }
 }
 
 // 64 × number + p, or 0 for an accepted image. A refusal leaves the row buffer as found.
 pub fn read(image: &[u8], place: usize, rows: &mut [u64]) -> u64
-    ensures { λ r. ⌜ (r ≡ readAnswer (now (image .entry)) place (now (rows .entry))) × (now (rows .exit) ≡ readRows (now (image .entry)) place (now (rows .entry))) ⌝ }
+    ensures answers { λ r. ⌜ r ≡ readAnswer (now (image .entry)) place (now (rows .entry)) ⌝ }
+    ensures writes { λ _. ⌜ now (rows .exit) ≡ readRows (now (image .entry)) place (now (rows .entry)) ⌝ }
 {
-    // Rule 1.
-    if LONGEST < image.len() {
-        return 64;
-    }
-    // Rule 2.
-    if rows.len() < 260 {
-        return 128;
-    }
-    // Rules 3 to 19.
-    let reading = check(image, place);
-    let stage = reading.stage;
-    let Stage::Checked = stage else {
-        return answer_of(stage);
+    let mut offsets = [0usize; MOST_PARTITIONS];
+    let mut entries = [0usize; MOST_PARTITIONS];
+    let short = rows.len() < BUFFER;
+    let reading = check(image, place, short, &mut offsets, &mut entries);
+    let Reading::Accepted(table, bill) = reading else {
+        return answer_of(reading);
     };
-    let table = reading.table;
-    let headers = reading.headers;
-    let n = table.partitions as usize;
-    let bill = billed(headers, n);
-    write(image, table, headers, n, bill, rows);
+    write(image, table, &offsets, &entries, bill, rows);
     0
 }

@@ -1,43 +1,87 @@
-// What an acceptance writes into the row buffer: the head, and then eight numbers for each partition.
-ghost use Prim.Native.Nat.{_+_, _*_, _≤_};
-ghost use mathlib.Core.List.{_++_, map};
+// What an acceptance writes into the row buffer: the head, and then a row for each partition.
+ghost use Prim.Native.Nat.{_+_, _*_, _≤_, _<_};
 ghost use mathlib.Core.Path.{_≡_};
-ghost use lib.ListN.{length, take, drop};
+ghost use lib.ListN.{length};
 ghost use lib.Seq.{sets};
-ghost use Rattle.pdi_spec.specs.Answers.{rowNumbers};
-ghost use Rattle.headers.specs.Headers.{headerOf, tableOf};
-ghost use Rattle.reader.specs.Rows.{headFrom, rowsFrom, rowWith};
-use headers::PartitionHeader;
+ghost use Rattle.pdi_spec.specs.Answers.{billed, rowNumbers, rowOf};
+ghost use Rattle.pdi_spec.specs.Limits.{headWidth, rowWidth};
+ghost use Rattle.chain_rules.specs.Chain.{Chain, fileOf};
+ghost use Rattle.block_rules.specs.Blocks.{Entries};
+ghost use Rattle.reader.specs.Rows.{firstRows, overwritten};
+use chain_rules::header_at;
+use core::wide;
+use headers::MOST_PARTITIONS;
 use headers::TableHeader;
+use ranges::Range;
 
-// One row, from an index on.
-fn put_row(rows: &mut [u64], at: usize, h: PartitionHeader, entry: u64)
-    requires { ⌜ at + 8 ≤ length (now rows) ⌝ }
-    ensures { λ _. ⌜ now (rows .exit) ≡ sets (now (rows .entry)) at (rowNumbers (rowWith entry (headerOf h))) ⌝ }
+// Numbers in the head and in a row, and in a row buffer that serves: the head, and a row for each of the most partitions.
+pub const HEAD: usize = 4;
+
+pub const ROW: usize = 8;
+
+pub const BUFFER: usize = HEAD + ROW * MOST_PARTITIONS;
+
+// The row of partition i + 1.
+fn row_at(
+    image: &[u8],
+    table: TableHeader,
+    offsets: &[usize; MOST_PARTITIONS],
+    entries: &[usize; MOST_PARTITIONS],
+    i: usize,
+) -> [u64; ROW]
+    requires chain { ⌜ Chain (now image) table (now offsets) ⌝ }
+    requires hashes { ⌜ Entries (now image) table (now entries) ⌝ }
+    requires counted { ⌜ i < table .partitions ⌝ }
+    ensures { λ r. ⌜ r ≡ rowNumbers (rowOf (fileOf (now (image .entry)) table) (i + 1)) ⌝ }
 {
-    let stored = conditions::span_of(h);
-    let loaded = conditions::load_range(h);
+    let h = header_at(image, table, offsets, i);
+    let stored: Range = h.span();
+    let loaded: Range = h.load_range();
     let attributes = h.attributes;
-    rows[at] = stored.start;
-    rows[at + 1] = stored.size;
-    rows[at + 2] = loaded.size;
-    rows[at + 3] = loaded.start;
-    rows[at + 4] = h.execution;
-    rows[at + 5] = h.key as u64;
-    rows[at + 6] = entry;
-    rows[at + 7] = attributes.word as u64;
+    [
+        stored.start,
+        stored.size,
+        loaded.size,
+        loaded.start,
+        h.execution,
+        wide(h.key),
+        entries[i] as u64,
+        attributes.word as u64,
+    ]
 }
 
-// The rows of the first n headers: they are numbered from 1 on.
-fn put_rows(image: &[u8], headers: [PartitionHeader; 32], n: usize, rows: &mut [u64])
-    requires { ⌜ (n ≤ 32) × (4 + 8 * n ≤ length (now rows)) ⌝ }
-    ensures { λ _. ⌜ now (rows .exit) ≡ sets (now (rows .entry)) 4 (rowsFrom (now (image .entry)) 1 (map headerOf (take n headers))) ⌝ }
+// Stores a row from an index on.
+fn put(rows: &mut [u64], at: usize, row: [u64; ROW])
+    requires { ⌜ at + rowWidth ≤ length (now rows) ⌝ }
+    ensures { λ _. ⌜ now (rows .exit) ≡ sets (now (rows .entry)) at row ⌝ }
 {
+    for k in 0..ROW {
+        rows[at + k] = row[k];
+    }
+}
+
+// The rows, which follow the head.
+fn put_rows(
+    image: &[u8],
+    table: TableHeader,
+    offsets: &[usize; MOST_PARTITIONS],
+    entries: &[usize; MOST_PARTITIONS],
+    rows: &mut [u64],
+)
+    requires chain { ⌜ Chain (now image) table (now offsets) ⌝ }
+    requires hashes { ⌜ Entries (now image) table (now entries) ⌝ }
+    requires room { ⌜ headWidth + rowWidth * table .partitions ≤ length (now rows) ⌝ }
+    ensures { λ _. ⌜ now (rows .exit) ≡ sets (now (rows .entry)) headWidth (firstRows (fileOf (now (image .entry)) table)
+        (table .partitions)) ⌝ }
+{
+    let n = table.partitions as usize;
     let mut i: usize = 0;
     while i < n {
-        let h = headers[i];
-        let entry = conditions::hash_entry(image, h.block, i + 1) as u64;
-        put_row(rows, 4 + 8 * i, h, entry);
+        put(
+            rows,
+            HEAD + ROW * i,
+            row_at(image, table, offsets, entries, i),
+        );
         i += 1;
     }
 }
@@ -46,13 +90,16 @@ fn put_rows(image: &[u8], headers: [PartitionHeader; 32], n: usize, rows: &mut [
 pub(crate) fn write(
     image: &[u8],
     table: TableHeader,
-    headers: [PartitionHeader; 32],
-    n: usize,
+    offsets: &[usize; MOST_PARTITIONS],
+    entries: &[usize; MOST_PARTITIONS],
     bill: u64,
     rows: &mut [u64],
 )
-    requires { ⌜ (n ≤ 32) × (4 + 8 * n ≤ length (now rows)) ⌝ }
-    ensures { λ _. ⌜ now (rows .exit) ≡ (headFrom (tableOf table) bill ++ rowsFrom (now (image .entry)) 1 (map headerOf (take n headers))) ++ drop (4 + 8 * n) (now (rows .entry)) ⌝ }
+    requires chain { ⌜ Chain (now image) table (now offsets) ⌝ }
+    requires hashes { ⌜ Entries (now image) table (now entries) ⌝ }
+    requires sum { ⌜ bill ≡ billed (fileOf (now image) table) ⌝ }
+    requires room { ⌜ headWidth + rowWidth * table .partitions ≤ length (now rows) ⌝ }
+    ensures { λ _. ⌜ now (rows .exit) ≡ overwritten (fileOf (now (image .entry)) table) (now (rows .entry)) ⌝ }
 {
     let kind = table.kind as u64;
     let images = table.images as u64;
@@ -61,5 +108,5 @@ pub(crate) fn write(
     rows[1] = images;
     rows[2] = partitions;
     rows[3] = bill;
-    put_rows(image, headers, n, rows);
+    put_rows(image, table, offsets, entries, rows);
 }

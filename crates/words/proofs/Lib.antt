@@ -1,5 +1,4 @@
--- Laws of pdi_spec's words, checksums, texts, parts and stored numbers, for the proofs here and for those of callers. Assumes nothing.
+-- Laws of pdi_spec's words, checksums, texts and stored numbers, for the proofs here and for those of callers. Assumes nothing.
 pub mod Stores
 pub mod Sums
-pub mod Tails
 pub mod Text

@@ -1,31 +1,17 @@
-// The bytes and the 32-bit little-endian words of a byte slice, checksums of words, and a number stored as bytes. All of it is total: a
-// byte past the end reads as 0, and what would lie past the end is not stored.
+// The bytes and the 32-bit little-endian words of a byte slice, checksums of words, and a number stored as bytes. What is read lies inside:
+// a rule has said so before, so no reading tests the end. Only a single byte may be asked for anywhere: it is 0 past the end.
 ghost use mathlib.Core.Path.{_≡_};
-ghost use Prim.Native.Nat.{_+_, _-_, _*_, _/_, _%_, _^_, _≤_, _<_, min};
-ghost use lib.ListN.{length, drop};
+ghost use Prim.Native.Nat.{_+_, _-_, _*_, _%_, _^_, _≤_, _<_};
+ghost use lib.ListN.{length};
 ghost use lib.Seq.{sets};
 ghost use Rattle.pdi_spec.specs.Words.{byteAt, wordAt, checksum, bootChecksum, spells};
 ghost use Rattle.pdi_spec.specs.Host.{leBytes};
-
-// How many bytes there are from an offset to the end.
-fn room(s: &[u8], at: usize) -> usize
-    ensures { λ r. ⌜ r ≡ length (now (s .entry)) - at ⌝ }
-{
-    if at < s.len() { s.len() - at } else { 0 }
-}
 
 // The byte at an offset, 0 past the end.
 pub fn byte_at(s: &[u8], at: usize) -> u8
     ensures { λ r. ⌜ r ≡ byteAt (now (s .entry)) at ⌝ }
 {
     if at < s.len() { s[at] } else { 0 }
-}
-
-// The part from an offset on, empty past the end. What is read in it needs no sum with that offset, which could overflow.
-pub fn tail(s: &[u8], at: usize) -> &[u8]
-    ensures { λ r. ⌜ now r ≡ drop at (now (s .entry)) ⌝ }
-{
-    if at < s.len() { &s[at..] } else { &s[..0] }
 }
 
 fn wide(x: u8) -> u32
@@ -41,39 +27,12 @@ fn word_of(a: u8, b: u8, c: u8, d: u8) -> u32
     wide(a) + 0x100 * wide(b) + 0x10000 * wide(c) + 0x1000000 * wide(d)
 }
 
-// The word at an offset, all of it inside: with no test between them the four reads become one.
-pub fn word_inside(s: &[u8], at: usize) -> u32
+// The word at an offset. With no test between them the four reads become one.
+pub fn word_at(s: &[u8], at: usize) -> u32
     requires { ⌜ at + 3 < length (now s) ⌝ }
     ensures { λ r. ⌜ r ≡ wordAt (now (s .entry)) at ⌝ }
 {
     word_of(s[at], s[at + 1], s[at + 2], s[at + 3])
-}
-
-// The word at an offset, byte by byte. From the end on it is 0, and before it no offset here overflows.
-fn word_by_bytes(s: &[u8], at: usize) -> u32
-    ensures { λ r. ⌜ r ≡ wordAt (now (s .entry)) at ⌝ }
-{
-    if s.len() <= at {
-        return 0;
-    }
-    word_of(
-        s[at],
-        byte_at(s, at + 1),
-        byte_at(s, at + 2),
-        byte_at(s, at + 3),
-    )
-}
-
-// The little-endian word at an offset; each byte past the end reads as 0. The room after three bytes is the same at every offset, so
-// each of several reads costs one comparison.
-pub fn word_at(s: &[u8], at: usize) -> u32
-    ensures { λ r. ⌜ r ≡ wordAt (now (s .entry)) at ⌝ }
-{
-    if at < room(s, 3) {
-        word_inside(s, at)
-    } else {
-        word_by_bytes(s, at)
-    }
 }
 
 // A sum modulo 2^32.
@@ -83,41 +42,21 @@ fn added(a: u32, b: u32) -> u32
     std::num::wrapping_add_u32(a, b)
 }
 
-// The checksum of n words that all lie inside: no test in the loop.
-fn sum_inside(s: &[u8], at: usize, n: usize) -> u32
+// The checksum of the n words from an offset on: the loop has no test and becomes vector instructions.
+pub fn checksum(s: &[u8], at: usize, n: usize) -> u32
     requires { ⌜ 4 * n ≤ length (now s) - at ⌝ }
     ensures { λ r. ⌜ r ≡ checksum (now (s .entry)) at n ⌝ }
 {
     let mut sum: u32 = 0;
     for i in 0..n {
-        sum = added(sum, word_inside(s, at + 4 * i));
+        sum = added(sum, word_at(s, at + 4 * i));
     }
     sum
 }
 
-// How many of the n words from an offset on lie inside.
-fn words_inside(s: &[u8], at: usize, n: usize) -> usize
-    ensures { λ r. ⌜ r ≡ min n ((length (now (s .entry)) - at) / 4) ⌝ }
-{
-    let whole = room(s, at) / 4;
-    if n < whole { n } else { whole }
-}
-
-// The checksum of the n words from an offset on. Where the run passes the end, one word may cross it, and those after that add 0.
-pub fn checksum(s: &[u8], at: usize, n: usize) -> u32
-    ensures { λ r. ⌜ r ≡ checksum (now (s .entry)) at n ⌝ }
-{
-    let whole = words_inside(s, at, n);
-    let sum = sum_inside(s, at, whole);
-    if whole < n {
-        added(sum, word_at(s, at + 4 * whole))
-    } else {
-        sum
-    }
-}
-
 // The boot header's: the negative of the sum.
 pub fn boot_checksum(s: &[u8], at: usize, n: usize) -> u32
+    requires { ⌜ 4 * n ≤ length (now s) - at ⌝ }
     ensures { λ r. ⌜ r ≡ bootChecksum (now (s .entry)) at n ⌝ }
 {
     std::num::wrapping_sub_u32(0, checksum(s, at, n))
@@ -126,6 +65,7 @@ pub fn boot_checksum(s: &[u8], at: usize, n: usize) -> u32
 // The four bytes from an offset on are those of a text: the two words are the same. By value, since only then does the proof know
 // that the text has four elements and that each is a byte.
 fn spells_text(s: &[u8], at: usize, text: [u8; 4]) -> bool
+    requires { ⌜ at + 3 < length (now s) ⌝ }
     ensures { λ r. ⌜ r ≡ spells (now (s .entry)) at text ⌝ }
 {
     word_at(s, at) == word_of(text[0], text[1], text[2], text[3])
@@ -133,6 +73,7 @@ fn spells_text(s: &[u8], at: usize, text: [u8; 4]) -> bool
 
 // The four bytes from an offset on are those of the text.
 pub fn spells(s: &[u8], at: usize, text: &[u8; 4]) -> bool
+    requires { ⌜ at + 3 < length (now s) ⌝ }
     ensures { λ r. ⌜ r ≡ spells (now (s .entry)) at (now (text .entry)) ⌝ }
 {
     spells_text(s, at, *text)
@@ -145,8 +86,8 @@ fn low(x: u64) -> u8
     (x % 256) as u8
 }
 
-// Stores the n lowest bytes of a number, the least first, all of them inside: at a constant n the stores become one.
-fn put_inside(s: &mut [u8], at: usize, n: usize, value: u64)
+// Stores the n lowest bytes of a number, the least first: at a constant n the stores become one.
+fn put_bytes(s: &mut [u8], at: usize, n: usize, value: u64)
     requires { ⌜ n ≤ length (now s) - at ⌝ }
     ensures { λ _. ⌜ now (s .exit) ≡ sets (now (s .entry)) at (leBytes n value) ⌝ }
 {
@@ -161,14 +102,10 @@ fn put_inside(s: &mut [u8], at: usize, n: usize, value: u64)
     }
 }
 
-// Stores a number as eight bytes, the least first; what would lie past the end is not stored.
+// Stores a number as eight bytes, the least first.
 pub fn put_u64(s: &mut [u8], at: usize, value: u64)
+    requires { ⌜ at + 8 ≤ length (now s) ⌝ }
     ensures { λ _. ⌜ now (s .exit) ≡ sets (now (s .entry)) at (leBytes 8 value) ⌝ }
 {
-    if at < room(s, 7) {
-        put_inside(s, at, 8, value);
-    } else {
-        let left = room(s, at);
-        put_inside(s, at, left, value);
-    }
+    put_bytes(s, at, 8, value);
 }

@@ -2,7 +2,7 @@
 use borrow.Author.Needs.{needs}
 use native.Mathlib.Omega.{arith}
 use Rattle.pdi_spec.specs.Envelope.{envelopeHead}
-use Rattle.envelope.proofs.Told.{part-is, none-left}
+use Rattle.envelope.proofs.Opening.{part-is, none-left}
 use Rattle.envelope.proofs.image.Statement.{statement}
 use Rattle.envelope.proofs.image.Tie as tie
 

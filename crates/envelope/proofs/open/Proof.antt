@@ -1,7 +1,7 @@
--- `envelope::open` meets its contract: each answer follows from the tests passed on the way, by the laws of Told.antt. Assumes nothing.
+-- `envelope::open` meets its contract: each answer follows from the tests passed on the way, by the laws of Opening.antt. Assumes nothing.
 use borrow.Author.Needs.{needs}
 use native.Mathlib.Omega.{arith}
-use Rattle.envelope.proofs.Told.{wrong-version, too-long, wrong-length, holds-told}
+use Rattle.envelope.proofs.Opening.{wrong-version, too-long, wrong-length, is-held}
 use Rattle.envelope.proofs.open.Statement.{statement}
 use Rattle.envelope.proofs.open.Tie as tie
 
@@ -27,7 +27,7 @@ big-endian-at-requires-2 : tie.Need-big-endian-at-requires-2
 big-endian-at-requires-2 c κs = search needs
 
 returns-4 : tie.Need-returns-4
-returns-4 c = rw (c .big-endian-at2 .ensures) (holds-told _ (omega arith) (omega arith) (omega arith))
+returns-4 c = rw (c .big-endian-at2 .ensures) (is-held _ (omega arith) (omega arith) (omega arith))
 
 pub open-spec : {M : Type 1} → statement M
 open-spec =

@@ -18,7 +18,7 @@ mul-one : tie.Need-mul-one Inv-loop μ-loop
 mul-one c = search needs
 
 one-requires : tie.Need-one-requires Inv-loop μ-loop
-one-requires c κs = tt
+one-requires c κs = search needs
 
 added-requires : tie.Need-added-requires Inv-loop μ-loop
 added-requires c κs = tt

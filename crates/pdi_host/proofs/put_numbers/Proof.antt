@@ -1,19 +1,21 @@
 -- `pdi_host::put_numbers` meets its contract. The loop's invariant: the first i numbers are stored, and nothing else is changed. The
 -- measure is the count of the numbers left. Assumes nothing.
 use borrow.Author.Needs.{needs}
-use Prim.Native.Nat.{_-_, _≤_}
+use Prim.Native.Nat.{_-_, _*_, _≤_}
 use native.Mathlib.Omega.{arith}
 use mathlib.Core.List.{flatMap}
 use mathlib.Core.Path.{_≡_, refl, _∙_, ap}
 use lib.ListN.{length, take}
 use lib.Seq.{sets}
-use Rattle.pdi_host.proofs.Stored.{bytesOf, turn}
+use Rattle.pdi_spec.specs.Limits.{numberBytes}
+use Rattle.pdi_host.proofs.Buffers.{bytesOf, turn}
 use Rattle.pdi_host.proofs.put_numbers.Statement.{statement}
 use Rattle.pdi_host.proofs.put_numbers.Tie as tie
 
 abbrev Inv-loop : tie.InvT-loop
 Inv-loop rows₀ numbers n i₀ rows i =
-    (i ≤ n) × (n ≤ 260) × (n ≤ length numbers) × (length rows ≡ length rows₀) × (rows ≡ sets rows₀ 0 (bytesOf (take i numbers)))
+    (i ≤ n) × (numberBytes * n ≤ length rows) × (n ≤ length numbers) × (length rows ≡ length rows₀)
+    × (rows ≡ sets rows₀ 0 (bytesOf (take i numbers)))
 
 abbrev μ-loop : tie.MeasureT-loop
 μ-loop rows₀ numbers n i₀ rows i = n - i
@@ -44,8 +46,9 @@ loop-again : tie.Need-loop-again Inv-loop μ-loop
 loop-again c =
     let a = c .before .before .before .before .before .before .before .before .before .args in
     let l = c .before .before .before .before .before .before .loop in
-    let after = turn (a .numbers .now) (a .rows .now) (l .rows) _ (l .i) _ (omega arith) (l .inv .4) (c .before .before .put-u64 .ensures) in
-    (omega arith, l .inv .1, l .inv .2, after .0, after .1)
+    let put = c .before .before .put-u64 .ensures in
+    let after = turn (a .numbers .now) (a .rows .now) (l .rows) _ (l .i) _ (omega arith) (l .inv .4) put in
+    (omega arith, omega arith, l .inv .2, after .0, after .1)
 
 same-length : tie.Need-same-length Inv-loop μ-loop
 same-length c = c .before .loop .inv .3

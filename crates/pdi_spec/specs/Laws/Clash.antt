@@ -2,38 +2,29 @@
 -- meets an earlier partition's; and what a list of rules that has both then answers. Assumes nothing.
 use Prim.Native.Nat.{ℕ, _-_, _<_}
 use native.Mathlib.Omega.{arith}
-use mathlib.Core.Bool.{Bool, true, false, not, _&&_}
+use mathlib.Core.Bool.{Bool, true, false, not, _&&_, and-eq-true-iff}
 use mathlib.Core.List.{List, [], _∷_, _++_, mem-cons-self, Sublist·subset}
 use mathlib.Core.Logic.{_⊎_, inl, inr, ⊎-elim}
 use mathlib.Core.Path.{_≡_, refl, ap}
 use lib.Dec.{eqb}
 use lib.ListN.{length}
-use borrow.Author.Tests.{eqb-true, eq-eqb, ltb-false}
-use Rattle.pdi_spec.specs.Lists.{numbers, anyTrue, anyOf, anyPair}
-use Rattle.pdi_spec.specs.File.{File, header}
-use Rattle.pdi_spec.specs.Ranges.{Range, endOf, within, overlap, sameRange, past, spans, bodies, headerRanges, hashBlocks, meet, loads, loadRange, loadsTo, addressSpace}
-use Rattle.pdi_spec.specs.Rules.{storedRangesClash, loadRangesClash, loadAddressBad}
-use Rattle.pdi_spec.specs.RuleList.{readingRules}
-use Rattle.pdi_spec.specs.Twice.{LiesInTwo, two-stored, block-and-stored, two-blocks, PositionTwice, MeetsEarlier}
-use Rattle.pdi_spec.specs.Verdict.{Keeps}
-use Rattle.pdi_spec.specs.Laws.Tests.{or-inl, or-inr, and-left, and-right, and-both, not-is-true, is-not-true, never-both, any-entry, entry-any, pair-entries, entries-pair, overlap-shared, shared-overlap, mem-numbers, numbers-mem, within-bounds}
-use Rattle.pdi_spec.specs.Laws.Kept.{Inside, stored-inside, blocks-inside, load-in-space}
+use borrow.Author.Tests.{not-true, eqb-true, eq-eqb, ltb-false}
+use Rattle.pdi_spec.specs.{Lists.numbers, Lists.anyTrue, Lists.anyOf, Lists.anyPair, File.File, File.header, Ranges.Range, Ranges.endOf, Ranges.within, Ranges.overlap, Ranges.sameRange, Ranges.past, Ranges.spans, Ranges.bodies, Ranges.headerRanges, Ranges.hashBlocks, Ranges.meet, Ranges.loads, Ranges.loadRange, Ranges.loadsTo, Ranges.addressSpace, Rules.storedRangesClash, Rules.loadRangesClash, Rules.loadAddressBad, RuleList.readingRules, Twice.LiesInTwo, Twice.two-stored, Twice.block-and-stored, Twice.two-blocks, Twice.PositionTwice, Twice.MeetsEarlier, Verdict.Keeps}
+use Rattle.pdi_spec.specs.Laws.{Tests.or-inl, Tests.or-inr, Tests.is-not-true, Tests.never-both, Tests.any-entry, Tests.entry-any, Tests.pair-entries, Tests.entries-pair, Tests.overlap-shared, Tests.shared-overlap, Tests.mem-numbers, Tests.numbers-mem, Tests.within-bounds, Kept.Inside, Kept.load-in-space, Inside.stored-inside, Inside.blocks-inside}
 
 -- ---- equal ranges
 
 same-equal : (g h : Range) → sameRange g h ≡ true → g ≡ h
 unfolding sameRange
 same-equal g h e =
-    λ i. record {
-      start = eqb-true (g .start) (h .start) (and-left (eqb (g .start) (h .start)) (eqb (g .size) (h .size)) e) i;
-      size = eqb-true (g .size) (h .size) (and-right (eqb (g .start) (h .start)) (eqb (g .size) (h .size)) e) i;
-    }
+    let both = and-eq-true-iff (eqb (g .start) (h .start)) (eqb (g .size) (h .size)) .0 e in
+    λ i. record { start = eqb-true (g .start) (h .start) (both .0) i; size = eqb-true (g .size) (h .size) (both .1) i }
 
 equal-same : (g h : Range) → g ≡ h → sameRange g h ≡ true
 unfolding sameRange
 equal-same g h e =
-    and-both (eqb (g .start) (h .start)) (eqb (g .size) (h .size)) (eq-eqb (g .start) (h .start) (ap (λ (r : Range). r .start) e))
-    (eq-eqb (g .size) (h .size) (ap (λ (r : Range). r .size) e))
+    and-eq-true-iff (eqb (g .start) (h .start)) (eqb (g .size) (h .size)) .1
+    (eq-eqb (g .start) (h .start) (ap (λ (r : Range). r .start) e), eq-eqb (g .size) (h .size) (ap (λ (r : Range). r .size) e))
 
 -- ---- rule 18
 
@@ -68,8 +59,8 @@ module _ (f : File) where
       (or-inr (anyOf (λ (k : Range). anyOf (overlap k) beside) (hashBlocks f)) _
       (or-inl (anyPair differing (hashBlocks f)) false
       (entries-pair differing (hashBlocks f) t
-      (and-both (overlap g h) (not (sameRange g h)) (shared-overlap g h x p q)
-      (ap not (is-not-true (sameRange g h) (λ e. d (same-equal g h e))))))))
+      (and-eq-true-iff (overlap g h) (not (sameRange g h)) .1
+      (shared-overlap g h x p q, ap not (is-not-true (sameRange g h) (λ e. d (same-equal g h e))))))))
 
   module _ (keeps : Keeps readingRules f) where
     -- a number of a range that lies inside the image is a position
@@ -87,7 +78,11 @@ module _ (f : File) where
             let t = pair-entries overlap stored h in
             let s = overlap-shared (t .0) (t .1) (t .3) in
             let inside = stored-inside f keeps (t .0) (Sublist·subset (t .2) (t .0) mem-cons-self) in
-            record { position = s .0; in-image = position (t .0) (s .0) inside (s .1); lies = two-stored (t .0) (t .1) (t .2) (s .1) (s .2) }
+            record {
+              position = s .0;
+              in-image = position (t .0) (s .0) inside (s .1);
+              lies = two-stored (t .0) (t .1) (t .2) (s .1) (s .2);
+            }
 
         second : anyOf (λ (h : Range). anyOf (overlap h) beside) (hashBlocks f) ≡ true → PositionTwice f
         second h =
@@ -103,8 +98,9 @@ module _ (f : File) where
         third : anyPair differing (hashBlocks f) ≡ true → PositionTwice f
         third h =
             let t = pair-entries differing (hashBlocks f) h in
-            let s = overlap-shared (t .0) (t .1) (and-left (overlap (t .0) (t .1)) (not (sameRange (t .0) (t .1))) (t .3)) in
-            let other = not-is-true (sameRange (t .0) (t .1)) (and-right (overlap (t .0) (t .1)) (not (sameRange (t .0) (t .1))) (t .3)) in
+            let both = and-eq-true-iff (overlap (t .0) (t .1)) (not (sameRange (t .0) (t .1))) .0 (t .3) in
+            let s = overlap-shared (t .0) (t .1) (both .0) in
+            let other = not-true (sameRange (t .0) (t .1)) (both .1) in
             let inside = blocks-inside f keeps (t .0) (Sublist·subset (t .2) (t .0) mem-cons-self) in
             record {
               position = s .0;
@@ -122,31 +118,29 @@ module _ (f : File) where
   pub meets-clash : (p : ℕ) → MeetsEarlier f p → loadRangesClash f p ≡ true
   unfolding loadRangesClash MeetsEarlier loadsTo meet
   meets-clash p (e, s) =
-      and-both (loads f p) (anyOf (meetsAt p) (numbers 1 (p - 1))) (s .loads-p)
-      (entry-any (meetsAt p) (numbers 1 (p - 1)) (numbers-mem 1 (p - 1) (s .counted) (omega (arith, s .earlier, s .counted)))
-      (and-both (loads f e) (meet (loadRange f p) (loadRange f e)) (s .loads-e)
-      (shared-overlap (loadRange f p .addresses) (loadRange f e .addresses) (s .address) (s .in-p) (s .in-e))))
+      let shared = shared-overlap (loadRange f p .addresses) (loadRange f e .addresses) (s .address) (s .in-p) (s .in-e) in
+      let met = and-eq-true-iff (loads f e) (meet (loadRange f p) (loadRange f e)) .1 (s .loads-e, shared) in
+      let earlier = numbers-mem 1 (p - 1) (s .counted) (omega (arith, s .earlier, s .counted)) in
+      and-eq-true-iff (loads f p) (anyOf (meetsAt p) (numbers 1 (p - 1))) .1 (s .loads-p, entry-any (meetsAt p) _ earlier met)
 
   -- the rule is broken at p, whose load range ends in the address space: it meets an earlier one's
   pub clash-meets : (p : ℕ) → loadAddressBad (header f p) ≡ false → loadRangesClash f p ≡ true → MeetsEarlier f p
   unfolding loadRangesClash MeetsEarlier loadsTo meet past endOf
   clash-meets p k h =
-      let here = and-left (loads f p) (anyOf (meetsAt p) (numbers 1 (p - 1))) h in
-      let t = any-entry (meetsAt p) (numbers 1 (p - 1)) (and-right (loads f p) (anyOf (meetsAt p) (numbers 1 (p - 1))) h) in
+      let here = and-eq-true-iff (loads f p) (anyOf (meetsAt p) (numbers 1 (p - 1))) .0 h in
+      let t = any-entry (meetsAt p) (numbers 1 (p - 1)) (here .1) in
       let e = t .0 in
       let b = mem-numbers 1 (p - 1) (t .1) in
-      let s =
-      overlap-shared (loadRange f p .addresses) (loadRange f e .addresses)
-      (and-right (loads f e) (meet (loadRange f p) (loadRange f e)) (t .2))
-      in (
+      let met = and-eq-true-iff (loads f e) (meet (loadRange f p) (loadRange f e)) .0 (t .2) in
+      let s = overlap-shared (loadRange f p .addresses) (loadRange f e .addresses) (met .1) in (
         e,
         record {
           counted = b .0;
           earlier = omega (arith, b .0, b .1);
-          loads-e = and-left (loads f e) (meet (loadRange f p) (loadRange f e)) (t .2);
-          loads-p = here;
+          loads-e = met .0;
+          loads-p = here .0;
           address = s .0;
-          in-space = below here (s .0) (s .1);
+          in-space = below (here .0) (s .0) (s .1);
           in-e = s .2;
           in-p = s .1;
         },

@@ -8,16 +8,8 @@ use mathlib.Core.Logic.{_↔_, ⊎-elim, Or·elim}
 use native.Mathlib.Bridge.{le-prop}
 use mathlib.Core.Option.{Option, none, some}
 use mathlib.Core.Path.{_≡_, refl, sym, _∙_, ap}
-use Rattle.pdi_spec.specs.Lists.{numbers, firstOf}
-use Rattle.pdi_spec.specs.File.{File, partitions, partitionNumbers, header}
-use Rattle.pdi_spec.specs.Rules.{storedRangesClash, loadRangesClash, loadAddressBad}
-use Rattle.pdi_spec.specs.RuleList.{readingRules}
-use Rattle.pdi_spec.specs.Twice.{PositionTwice, MeetsEarlier, AddressTwice, SmallestMeeting}
-use Rattle.pdi_spec.specs.Verdict.{Rule, once, each, refused, verdict, Kept, Keeps}
-use Rattle.pdi_spec.specs.Laws.Tests.{either, never-both, is-not-true, mem-numbers, numbers-mem}
-use Rattle.pdi_spec.specs.Laws.Verdict.{First, first-mem, first-none, first-some, first-smallest, smallest-first, verdict-broken, verdict-kept, verdict-skip, no-such-number, refused-number, refused-p}
-use Rattle.pdi_spec.specs.Laws.Kept.{rule-16}
-use Rattle.pdi_spec.specs.Laws.Clash.{twice-clash, clash-twice, meets-clash, clash-meets}
+use Rattle.pdi_spec.specs.{Lists.numbers, Lists.firstOf, File.File, File.partitions, File.partitionNumbers, File.header, Rules.storedRangesClash, Rules.loadRangesClash, Rules.loadAddressBad, RuleList.ofHeader, RuleList.tableRules, RuleList.headerRules, RuleList.partitionRules, RuleList.readingRules, Twice.PositionTwice, Twice.MeetsEarlier, Twice.AddressTwice, Twice.SmallestMeeting, Verdict.Rule, Verdict.once, Verdict.each, Verdict.eachAndTable, Verdict.refused, Verdict.verdict, Verdict.Kept, Verdict.Keeps}
+use Rattle.pdi_spec.specs.Laws.{Tests.either, Tests.never-both, Tests.is-not-true, Tests.mem-numbers, Tests.numbers-mem, Firsts.First, Firsts.first-mem, Firsts.first-none, Firsts.first-some, Firsts.first-smallest, Firsts.smallest-first, Verdict.verdict-broken, Verdict.verdict-kept, Verdict.verdict-skip, Verdict.no-such-number, Verdict.refused-number, Verdict.refused-p, Kept.kept-each, Inside.reading-kept, Clash.twice-clash, Clash.clash-twice, Clash.meets-clash, Clash.clash-meets}
 
 module _ (f : File) (before after : List Rule) (kept : Keeps before f) (headers : Keeps readingRules f)
     (high : (r : Rule) → List·Mem r after → 19 < r .number) where
@@ -42,18 +34,18 @@ module _ (f : File) (before after : List Rule) (kept : Keeps before f) (headers 
   later-high : (k : ℕ) → k < 19 → (r : Rule) → List·Mem r fromLoads → k < r .number
   unfolding each
   later-high k h r m =
-      Or·elim le-prop (eq-or-mem-of-mem-cons m) (λ q. let n = ap (λ (s : Rule). s .number) q in omega (arith, n)) (λ l. omega (arith, high r l))
+      Or·elim le-prop (eq-or-mem-of-mem-cons m) (λ q. omega (arith, ap (λ (s : Rule). s .number) q)) (λ l. omega (arith, high r l))
 
   -- ---- refused with 18
 
   pub refused-18 : (p : ℕ) → (verdict (before ++ fromStored) f ≡ refused 18 p) ↔ (PositionTwice f × (p ≡ 0))
-  refused-18 p = (λ e. ⊎-elim (broken e) (whole e) (either (storedRangesClash f)), λ t. stored-broken (twice-clash f (t .0 .position) (t .0 .lies)) ∙ ap (refused 18) (sym (t .1)))
-    where
-      broken : verdict (before ++ fromStored) f ≡ refused 18 p → storedRangesClash f ≡ true → PositionTwice f × (p ≡ 0)
-      broken e h = (clash-twice f headers h, refused-p (sym e ∙ stored-broken h))
-
-      whole : verdict (before ++ fromStored) f ≡ refused 18 p → storedRangesClash f ≡ false → PositionTwice f × (p ≡ 0)
-      whole e h = absurd (no-such-number fromLoads f 18 p (later-high 18 (omega arith)) (sym (stored-kept h) ∙ e))
+  refused-18 p = (
+    λ e.
+        ⊎-elim (λ h. (clash-twice f headers h, refused-p (sym e ∙ stored-broken h)))
+        (λ h. absurd (no-such-number fromLoads f 18 p (later-high 18 (omega arith)) (sym (stored-kept h) ∙ e)))
+        (either (storedRangesClash f)),
+    λ t. stored-broken (twice-clash f (t .0 .position) (t .0 .lies)) ∙ ap (refused 18) (sym (t .1)),
+  )
 
   -- ---- refused with 19
 
@@ -80,14 +72,15 @@ module _ (f : File) (before after : List Rule) (kept : Keeps before f) (headers 
   unfolding each partitionNumbers Kept
   first-meeting p e = go (firstOf (loadRangesClash f) (numbers 1 (partitions f))) refl
     where
-      go : (o : Option ℕ) → firstOf (loadRangesClash f) (numbers 1 (partitions f)) ≡ o → First (loadRangesClash f) (numbers 1 (partitions f)) p
+      go : (o : Option ℕ) → firstOf (loadRangesClash f) (numbers 1 (partitions f)) ≡ o
+          → First (loadRangesClash f) (numbers 1 (partitions f)) p
       go none q =
           absurd (no-such-number after f 19 p high (sym (verdict-kept (each 19 loadRangesClash) after f (first-none _ _ q)) ∙ e))
       go (some x) q = first-some _ _ p (q ∙ ap some (refused-p (sym (loads-broken x q) ∙ e)))
 
   rule-16-at : (p : ℕ) → List·Mem p (numbers 1 (partitions f)) → loadAddressBad (header f p) ≡ false
-  unfolding partitionNumbers
-  rule-16-at p m = rule-16 f headers p m
+  unfolding partitionNumbers readingRules tableRules partitionRules headerRules firstOf once each eachAndTable
+  rule-16-at p m = kept-each 16 (ofHeader loadAddressBad) f (reading-kept f headers 16 refl) p m
 
   smallest-of : (p : ℕ) → First (loadRangesClash f) (numbers 1 (partitions f)) p → SmallestMeeting f p
   smallest-of p t =
@@ -108,12 +101,11 @@ module _ (f : File) (before after : List Rule) (kept : Keeps before f) (headers 
 
   pub refused-19 : (p : ℕ) → (verdict (before ++ fromStored) f ≡ refused 19 p) ↔ ((PositionTwice f → ⊥) × SmallestMeeting f p)
   refused-19 p = (
-    λ e. ⊎-elim (λ h. absurd (not-18 (refused-number (sym (stored-broken h) ∙ e)))) (λ h. (no-position h, smallest-of p (first-meeting p (sym (stored-kept h) ∙ e)))) (either (storedRangesClash f)),
+    λ e.
+        ⊎-elim (λ h. absurd (omega (arith, refused-number (sym (stored-broken h) ∙ e))))
+        (λ h. (no-position h, smallest-of p (first-meeting p (sym (stored-kept h) ∙ e)))) (either (storedRangesClash f)),
     λ t. stored-kept (no-clash (t .0)) ∙ loads-broken p (first-of p (t .1)),
   )
-    where
-      not-18 : _≡_ {A = ℕ} 18 19 → ⊥
-      not-18 q = omega arith
 
   -- some p is answered exactly where no position is claimed twice, but some address is
   pub refused-19-some : ((p : ℕ) × (verdict (before ++ fromStored) f ≡ refused 19 p)) ↔ ((PositionTwice f → ⊥) × AddressTwice f)

@@ -7,11 +7,8 @@ use mathlib.Core.Path.{_≡_, ap, ap₂}
 use lib.Dec.{ltb, eqb}
 use lib.ListN.{length}
 use borrow.Author.Tests.{le-ltb, eq-eqb}
-use Rattle.pdi_spec.specs.Words.{byteAt}
-use Rattle.pdi_spec.specs.Host.{leBytes}
-use Rattle.pdi_spec.specs.Answers.{asked}
-use Rattle.pdi_spec.specs.Envelope.{bad, holds, bigEndian, bigEndianAt, envelopeHead, envelopeBad, envelope}
-use Rattle.pdi_spec.specs.Laws.Tests.{or-both}
+use Rattle.pdi_spec.specs.{Words.byteAt, Host.leBytes, Answers.asked, Envelope.bad, Envelope.holds, Envelope.bigEndian, Envelope.bigEndianAt, Envelope.envelopeHead, Envelope.envelopeBad, Envelope.envelope}
+use Rattle.pdi_spec.specs.Laws.{Tests.or-both}
 
 -- four bytes tell their number
 four-bytes : (n : ℕ) → n < 0x100000000
@@ -19,7 +16,8 @@ four-bytes : (n : ℕ) → n < 0x100000000
 four-bytes n h = omega arith
 
 -- an input of 9 bytes and the image, whose stated length is the image's, is not bad
-not-bad : (long size stated : ℕ) → long ≡ 9 + size → size ≤ 65527 → stated ≡ size → (ltb 65527 stated || not (eqb long (9 + stated))) ≡ false
+not-bad : (long size stated : ℕ) → long ≡ 9 + size → size ≤ 65527 → stated ≡ size
+    → (ltb 65527 stated || not (eqb long (9 + stated))) ≡ false
 not-bad long size stated n h e =
     or-both (ltb 65527 stated) (not (eqb long (9 + stated))) (le-ltb 65527 stated (omega arith))
     (ap not (eq-eqb long (9 + stated) (omega arith)))

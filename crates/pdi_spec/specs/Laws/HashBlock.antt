@@ -3,26 +3,19 @@
 use Prim.Native.Nat.{ℕ, _+_, _<_}
 use native.Mathlib.Omega.{arith}
 use native.Mathlib.Nat.{ℕ-set}
-use mathlib.Core.Bool.{Bool, true, false, cond}
+use mathlib.Core.Bool.{Bool, true, false, cond, and-eq-true-iff}
 use mathlib.Core.List.{List, [], _∷_, List·Mem, mem-cons-self, mem-cons-of-mem, eq-or-mem-of-mem-cons}
 use mathlib.Core.Logic.{⊎-elim, Or·elim}
 use mathlib.Core.Option.{some, Option·elim}
 use mathlib.Core.Path.{_≡_, refl}
 use lib.Dec.{eqb}
-use borrow.Author.Tests.{eqb-true, eq-eqb}
-use Rattle.pdi_spec.specs.Lists.{numbers, anyOf, countOf, firstOf}
-use Rattle.pdi_spec.specs.Headers.{Block}
-use Rattle.pdi_spec.specs.File.{File, blockOf}
-use Rattle.pdi_spec.specs.Words.{wordAt}
-use Rattle.pdi_spec.specs.HashBlock.{noBlock, entrySize, sizeOfEntries, entriesIn}
-use Rattle.pdi_spec.specs.HashBlock.{entryAt, hasIndex, entryNumbers, ownEntries, hashEntryIn}
-use Rattle.pdi_spec.specs.Rules.{hashBlockBad, hashBlockWrong}
-use Rattle.pdi_spec.specs.Laws.Tests.{either, or-both, and-left, not-is-false, never-both, false-at}
-use Rattle.pdi_spec.specs.Laws.Tests.{mem-numbers, numbers-mem, none-entry}
+use borrow.Author.Tests.{not-false, eqb-true, eq-eqb}
+use Rattle.pdi_spec.specs.{Lists.numbers, Lists.anyOf, Lists.countOf, Lists.firstOf, Headers.Block, File.File, File.hashBlock, Words.wordAt, HashBlock.noBlock, HashBlock.entrySize, HashBlock.sizeOfEntries, HashBlock.entriesIn, HashBlock.entryAt, HashBlock.hasIndex, HashBlock.entryNumbers, HashBlock.ownEntries, HashBlock.hashEntryIn, Rules.hashBlockBad, Rules.hashBlockWrong}
+use Rattle.pdi_spec.specs.Laws.{Tests.either, Tests.or-both, Tests.never-both, Tests.false-at, Tests.mem-numbers, Tests.numbers-mem, Tests.none-entry}
 
 -- a length stands for at most one number of entries
 pub entries-unique : (n : ℕ) → entriesIn (sizeOfEntries n) ≡ n
-unfolding entriesIn sizeOfEntries entrySize
+unfolding entriesIn sizeOfEntries
 entries-unique n = omega arith
 
 -- ---- one entry of a list passes a test
@@ -76,19 +69,15 @@ count-one test (x ∷ xs) e =
 
 -- ---- the own entry
 
--- a block that rule 17 has passed has one entry with the own index
-one-own : (bytes : List ℕ) (i : ℕ) (b : Block) → hashBlockBad bytes i b ≡ false → ownEntries bytes b i ≡ 1
-unfolding hashBlockBad
-one-own bytes i b e = eqb-true (ownEntries bytes b i) 1 (not-is-false (eqb (ownEntries bytes b i) 1) (false-at _ e 5))
-
 -- Exactly one of its entries has the own index, and `hashEntryIn` is its byte offset.
 pub own-entry : (bytes : List ℕ) (i : ℕ) (b : Block) → hashBlockBad bytes i b ≡ false
     → (k : ℕ) × (k < entriesIn (b .size)) × (hashEntryIn bytes b i ≡ entryAt b k) × (wordAt bytes (entryAt b k) ≡ i)
     × ((j : ℕ) → j < entriesIn (b .size) → wordAt bytes (entryAt b j) ≡ i → j ≡ k)
-unfolding ownEntries entryNumbers hashEntryIn hasIndex Option·elim
+unfolding hashBlockBad ownEntries entryNumbers hashEntryIn hasIndex Option·elim
 own-entry bytes i b e =
     let n = entriesIn (b .size) in
-    let r = count-one (hasIndex bytes b i) (numbers 0 n) (one-own bytes i b e) in (
+    let one = eqb-true (ownEntries bytes b i) 1 (not-false (eqb (ownEntries bytes b i) 1) (false-at _ e 5)) in
+    let r = count-one (hasIndex bytes b i) (numbers 0 n) one in (
       r .0,
       omega (arith, mem-numbers 0 n (r .2)),
       rw (r .1) refl,
@@ -99,12 +88,13 @@ own-entry bytes i b e =
 
 -- Without a block there is no entry.
 pub no-entry : (bytes : List ℕ) (i : ℕ) (b : Block) → noBlock b ≡ true → hashEntryIn bytes b i ≡ 0
-unfolding noBlock hashEntryIn entryNumbers entriesIn entrySize numbers firstOf Option·elim
+unfolding hashEntryIn entryNumbers entriesIn numbers firstOf Option·elim
 no-entry bytes i b e =
-    let empty : b .size ≡ 0 = eqb-true _ 0 (and-left _ _ e) in
+    let empty : b .size ≡ 0 = eqb-true _ 0 (and-eq-true-iff _ _ .0 e .0) in
     rw empty refl
 
 -- Rule 17 kept at i, where there is a block: the block is not bad.
-pub not-bad : (f : File) (i : ℕ) → noBlock (blockOf f i) ≡ false → hashBlockWrong f i ≡ false → hashBlockBad (f .bytes) i (blockOf f i) ≡ false
+pub not-bad : (f : File) (i : ℕ) → noBlock (hashBlock f i) ≡ false → hashBlockWrong f i ≡ false
+    → hashBlockBad (f .bytes) i (hashBlock f i) ≡ false
 unfolding hashBlockWrong
 not-bad f i b w = rw b at w

@@ -1,26 +1,17 @@
--- What a kept rule tells of the file, by the kinds of rules; and that the ranges of rule 18 lie inside the image where rules 3 to 17
--- are kept. Assumes nothing.
-use Prim.Native.Nat.{ℕ, zero, suc, _%_, _≤_, _<_}
+-- What a kept rule tells of the file, by the kinds of rules and in plain numbers, and that a rule stands in a list, by its number.
+-- Assumes nothing.
+use Prim.Native.Nat.{ℕ, suc, _≤_, _+_, _*_, _<_}
 use native.Mathlib.Omega.{arith}
-use native.Mathlib.Bridge.{le-prop}
-use mathlib.Core.Bool.{Bool, true, false, cond, not}
-use mathlib.Core.List.{List, [], _∷_, _++_, map, List·Mem, List·Memᴰ·cases-cons, mem-cons-self, mem-cons-of-mem, not-mem-nil, mem-append, exists-of-mem-map}
-use mathlib.Core.Logic.{⊎-elim, ∥∥₁-elim, Or·elim}
-use mathlib.Core.Path.{_≡_, refl, sym, subst}
-use lib.Dec.{eqb, lit<}
-use lib.ListN.{length, getD}
+use mathlib.Core.Bool.{Bool, false, true}
+use mathlib.Core.List.{List, List·Mem, mem-cons-self}
+use mathlib.Core.Option.{some}
+use mathlib.Core.Path.{_≡_, _∙_, ap}
+use mathlib.Core.Logic.{_⊎_, inl, inr, ⊎-elim}
+use lib.Dec.{eqb, ltb}
+use lib.ListN.{length}
 use borrow.Author.Tests.{ltb-false}
-use Rattle.pdi_spec.specs.Lists.{numbers}
-use Rattle.pdi_spec.specs.Headers.{bootSize, headerSize, tableFrom, bootFrom}
-use Rattle.pdi_spec.specs.File.{File, table, partitions, partitionNumbers, header, isFull, blockOf}
-use Rattle.pdi_spec.specs.HashBlock.{noBlock}
-use Rattle.pdi_spec.specs.Ranges.{blockRanges, Range, endOf, past, bootRange, tableRange, tableWithOptional, imageHeaders, headerRange, span, blockRange, spans, headerRanges, hashBlocks, loads, loadRange, addressSpace}
-use Rattle.pdi_spec.specs.Verdict.{Rule, once, each, eachAndTable, Kept, Keeps}
-use Rattle.pdi_spec.specs.Rules.{tableOutside, bootHeaderWrong, bootHeaderBad, imageHeadersOutside, chainBroken, spanOutside, loadAddressBad, hashBlockWrong, hashBlockBad}
-use Rattle.pdi_spec.specs.RuleList.{tableRules, chainRule, headerRules, partitionRules, readingRules, withTable, ofHeader, withHeader}
-use Rattle.pdi_spec.specs.Laws.Lists.{mem-flatMap}
-use Rattle.pdi_spec.specs.Laws.HashBlock.{not-bad}
-use Rattle.pdi_spec.specs.Laws.Tests.{or-left, or-right, false-at, numbers-mem}
+use Rattle.pdi_spec.specs.{Lists.numbers, Lists.firstOf, File.File, File.table, File.partitions, File.partitionNumbers, File.header, File.hashBlock, Verdict.Rule, Verdict.once, Verdict.each, Verdict.eachAndTable, Verdict.Kept, Rules.spanOutside, Rules.loadAddressBad, Rules.hashBlockWrong, Rules.notFrom, Rules.tableFieldsBad, Rules.lengthsBad, RuleList.ofHeader, RuleList.withHeader, RuleList.ofTable, RuleList.rule6, RuleList.rule14, RuleList.rule15, RuleList.rule16, RuleList.rule17, Limits.mostImages, Limits.mostPartitions, Words.wordAt, HashBlock.noBlock, HashBlock.entrySize, HashBlock.entryAt, HashBlock.entriesIn, Ranges.endOf, Ranges.past, Ranges.span, Ranges.spanOf, Ranges.loadAddressOf, Ranges.loadRange, Ranges.loadRangeOf, Ranges.loads, Ranges.addressSpace, Ranges.Range, Answers.hashEntry}
+use Rattle.pdi_spec.specs.Laws.{Firsts.first-mem, Firsts.first-some, Tests.numbers-mem, Tests.either, Tests.or-left, Tests.or-right, Tests.false-at, HashBlock.own-entry, HashBlock.no-entry, HashBlock.not-bad}
 
 -- ---- by the kinds of rules
 
@@ -42,47 +33,11 @@ pub partition-mem : (f : File) (p : ℕ) → 1 ≤ p → p ≤ partitions f → 
 unfolding partitionNumbers
 partition-mem f p l h = numbers-mem 1 (partitions f) l (omega arith)
 
--- the entry at an index stands in the list
-pub mem-at : {A : Type 0} (xs : List A) (i : ℕ) (d : A) → i < length xs → List·Mem (getD xs i d) xs
-mem-at [] i d h = absurd (omega arith)
-mem-at (x ∷ xs) zero d h = mem-cons-self
-mem-at (x ∷ xs) (suc i) d h = mem-cons-of-mem x (mem-at xs i d (omega arith))
+-- the rule of a number stands in the list
+pub by-number : (k : ℕ) (rs : List Rule) {r : Rule} → firstOf (λ (s : Rule). eqb (s .number) k) rs ≡ some r → List·Mem r rs
+by-number k rs {r} e = first-mem _ rs r (first-some _ rs r e)
 
-module _ (f : File) (keeps : Keeps readingRules f) where
-  -- the rule at an index of rules 3 to 17 is kept
-  kept-at : (i : ℕ) (d : Rule) → i < length readingRules → Kept (getD readingRules i d) f
-  unfolding Keeps
-  kept-at i d h = keeps (getD readingRules i d) (mem-at readingRules i d h)
-
-  pub rule-3 : tableOutside f ≡ false
-  unfolding readingRules tableRules partitionRules chainRule headerRules
-  rule-3 = kept-once 3 tableOutside f (kept-at 0 (once 0 tableOutside) (lit< tt))
-
-  pub rule-8 : bootHeaderWrong f ≡ false
-  unfolding readingRules tableRules partitionRules chainRule headerRules
-  rule-8 = kept-once 8 bootHeaderWrong f (kept-at 5 (once 0 tableOutside) (lit< tt))
-
-  pub rule-9 : imageHeadersOutside (f .bytes) (table f) ≡ false
-  unfolding readingRules tableRules partitionRules chainRule headerRules
-  rule-9 = kept-once 9 (withTable imageHeadersOutside) f (kept-at 6 (once 0 tableOutside) (lit< tt))
-
-  pub rule-10 : (p : ℕ) → List·Mem p (partitionNumbers f) → chainBroken f p ≡ false
-  unfolding readingRules tableRules partitionRules chainRule headerRules
-  rule-10 = kept-each 10 chainBroken f (kept-at 7 (once 0 tableOutside) (lit< tt))
-
-  pub rule-15 : (p : ℕ) → List·Mem p (partitionNumbers f) → spanOutside (f .bytes) (header f p) ≡ false
-  unfolding readingRules tableRules partitionRules chainRule headerRules
-  rule-15 = kept-each 15 (withHeader spanOutside) f (kept-at 12 (once 0 tableOutside) (lit< tt))
-
-  pub rule-16 : (p : ℕ) → List·Mem p (partitionNumbers f) → loadAddressBad (header f p) ≡ false
-  unfolding readingRules tableRules partitionRules chainRule headerRules
-  rule-16 = kept-each 16 (ofHeader loadAddressBad) f (kept-at 13 (once 0 tableOutside) (lit< tt))
-
-  pub rule-17 : (p : ℕ) → List·Mem p (numbers 0 (suc (partitions f))) → hashBlockWrong f p ≡ false
-  unfolding readingRules tableRules partitionRules chainRule headerRules
-  rule-17 = kept-with-table 17 hashBlockWrong f (kept-at 14 (once 0 tableOutside) (lit< tt))
-
--- ---- inside the image
+-- ---- inside the image, and in the address space
 
 -- the range's end is at most the image's length
 unfoldable pub Inside : File → Range → Type 0
@@ -97,76 +52,66 @@ unfolding spanOutside span
 span-inside f p e = not-past f (span f p) (or-left (past (length (f .bytes)) (span f p)) _ e)
 
 -- a load range that rule 16 has passed ends in the address space
-pub load-in-space : (f : File) (p : ℕ) → loads f p ≡ true → loadAddressBad (header f p) ≡ false → past addressSpace (loadRange f p .addresses) ≡ false
+pub load-in-space : (f : File) (p : ℕ) → loads f p ≡ true → loadAddressBad (header f p) ≡ false
+    → past addressSpace (loadRange f p .addresses) ≡ false
 unfolding loadAddressBad loads loadRange
 load-in-space f p l k = rw l at k
 
--- what holds of f x for each x of a list holds of each entry of the mapped list
-inside-map : (f : File) (g : ℕ → Range) (xs : List ℕ) → ((x : ℕ) → List·Mem x xs → Inside f (g x))
-    → (r : Range) → List·Mem r (map g xs) → Inside f r
-unfolding Inside
-inside-map f g xs h r m =
-    ∥∥₁-elim (exists-of-mem-map m) le-prop (λ t. subst (λ (q : Range). endOf q ≤ length (f .bytes)) (t .2) (h (t .0) (t .1)))
+-- ---- what rules 6 and 14 to 17 ask
 
-inside-either : (f : File) (xs ys : List Range) → ((r : Range) → List·Mem r xs → Inside f r) → ((r : Range) → List·Mem r ys → Inside f r)
-    → (r : Range) → List·Mem r (xs ++ ys) → Inside f r
-unfolding Inside
-inside-either f xs ys h k r m = Or·elim le-prop (mem-append .0 m) (h r) (k r)
+from-to : (low high n : ℕ) → notFrom low high n ≡ false → (low ≤ n) × (n ≤ high)
+unfolding notFrom
+from-to low high n e =
+    (ltb-false n low (or-left (ltb n low) (ltb high n) e), ltb-false high n (or-right (ltb n low) (ltb high n) e))
 
-inside-cons : (f : File) (x : Range) (xs : List Range) → Inside f x → ((r : Range) → List·Mem r xs → Inside f r)
-    → (r : Range) → List·Mem r (x ∷ xs) → Inside f r
-unfolding Inside
-inside-cons f x xs h k r m =
-    ∥∥₁-elim m le-prop
-    (λ d. ⊎-elim (λ q. subst (λ (u : Range). endOf u ≤ length (f .bytes)) (sym q) h) (λ d′. k r ∣ d′ ∣₁) (List·Memᴰ·cases-cons d))
+pub counts-stated : (f : File) → Kept rule6 f
+    → (1 ≤ table f .images) × (table f .images ≤ mostImages) × (1 ≤ partitions f) × (partitions f ≤ mostPartitions)
+unfolding tableFieldsBad partitions
+counts-stated f k =
+    let e = kept-once 6 (ofTable tableFieldsBad) f k in
+    let images = from-to 1 mostImages (table f .images) (false-at _ e 0) in
+    let chain = from-to 1 mostPartitions (partitions f) (false-at _ e 1) in
+    (images .0, images .1, chain .0, chain .1)
 
-inside-none : (f : File) (r : Range) → List·Mem r [] → Inside f r
-inside-none f r m = absurd (not-mem-nil m)
+module _ (f : File) (p : ℕ) (low : 1 ≤ p) (high : p ≤ partitions f) where
+  pub lengths-stated : Kept rule14 f
+      → (1 ≤ header f p .unencrypted)
+      × (header f p .unencrypted ≤ header f p .encrypted)
+      × (header f p .encrypted ≤ header f p .total)
+      × (header f p .keyActual ≤ header f p .keyTotal)
+      × (header f p .signatureActual ≤ header f p .signatureTotal)
+  unfolding lengthsBad
+  lengths-stated k =
+      let e = kept-each 14 (ofHeader lengthsBad) f k p (partition-mem f p low high) in (
+        ltb-false _ _ (false-at _ e 0),
+        ltb-false _ _ (false-at _ e 1),
+        ltb-false _ _ (false-at _ e 2),
+        ltb-false _ _ (false-at _ e 3),
+        ltb-false _ _ (false-at _ e 4),
+      )
 
-module _ (f : File) (keeps : Keeps readingRules f) where
-  -- a full image is longer than its boot header, as the table lies behind it
-  boot-inside : isFull f ≡ true → Inside f bootRange
-  unfolding Inside endOf bootRange bootHeaderWrong bootHeaderBad tableOutside tableRange headerSize table tableFrom
-  boot-inside full =
-      let bad : bootHeaderBad (f .bytes) (table f) (bootFrom (f .bytes)) ≡ false = rw full at (rule-8 f keeps) in
-      let place = ltb-false (f .place) bootSize (false-at _ bad 0) in
-      let end = not-past f (tableRange (f .place)) (or-right (not (eqb (f .place % 4) 0)) (past (length (f .bytes)) (tableRange (f .place))) (rule-3 f keeps)) in
-      omega (arith, place, end)
+  pub span-stated : Kept rule15 f → 4 * header f p .dataOffset + 4 * header f p .total ≤ length (f .bytes)
+  unfolding Inside endOf span
+  span-stated k = span-inside f p (kept-each 15 (withHeader spanOutside) f k p (partition-mem f p low high))
 
-  boots-inside : (r : Range) → List·Mem r (cond (isFull f) (bootRange ∷ []) []) → Inside f r
-  boots-inside = go (isFull f) refl
-    where
-      go : (b : Bool) → isFull f ≡ b → (r : Range) → List·Mem r (cond b (bootRange ∷ []) []) → Inside f r
-      go true e = inside-cons f bootRange [] (boot-inside e) (inside-none f)
-      go false e = inside-none f
+  pub load-stated : Kept rule16 f → loads f p ≡ true
+      → loadAddressOf (header f p) + 4 * header f p .unencrypted ≤ 0x1_0000_0000_0000_0000
+  unfolding past endOf loadRange addressSpace
+  load-stated k l =
+      ltb-false addressSpace _ (load-in-space f p l (kept-each 16 (ofHeader loadAddressBad) f k p (partition-mem f p low high)))
 
-  header-inside : (p : ℕ) → List·Mem p (partitionNumbers f) → Inside f (headerRange (header f p))
-  unfolding chainBroken
-  header-inside p m = not-past f (headerRange (header f p)) (false-at _ (rule-10 f keeps p m) 0)
-
-  -- every range that rule 18 wants disjoint from the others
-  pub stored-inside : (r : Range) → List·Mem r (headerRanges f ++ spans f) → Inside f r
-  unfolding headerRanges spans imageHeadersOutside
-  stored-inside =
-      inside-either f _ (map (span f) (partitionNumbers f))
-      (inside-either f (cond (isFull f) (bootRange ∷ []) []) _ boots-inside
-      (inside-cons f (tableWithOptional (table f)) _ (not-past f (tableWithOptional (table f)) (or-left (past (length (f .bytes)) (tableWithOptional (table f))) (past (length (f .bytes)) (imageHeaders (table f))) (rule-9 f keeps)))
-      (inside-cons f (imageHeaders (table f)) _ (not-past f (imageHeaders (table f)) (or-right (past (length (f .bytes)) (tableWithOptional (table f))) (past (length (f .bytes)) (imageHeaders (table f))) (rule-9 f keeps)))
-      (inside-map f (λ (p : ℕ). headerRange (header f p)) (partitionNumbers f) header-inside))))
-      (inside-map f (span f) (partitionNumbers f) (λ p m. span-inside f p (rule-15 f keeps p m)))
-
-  -- and every hash block
-  block-inside : (i : ℕ) → List·Mem i (numbers 0 (suc (partitions f))) → (r : Range) → List·Mem r (blockRanges (blockOf f i)) → Inside f r
-  unfolding blockRanges hashBlockBad
-  block-inside i m = go (noBlock (blockOf f i)) refl
-    where
-      go : (b : Bool) → noBlock (blockOf f i) ≡ b → (r : Range) → List·Mem r (cond b [] (blockRange (blockOf f i) ∷ [])) → Inside f r
-      go true e = inside-none f
-      go false e =
-          inside-cons f (blockRange (blockOf f i)) [] (not-past f (blockRange (blockOf f i)) (false-at _ (not-bad f i e (rule-17 f keeps i m)) 4)) (inside-none f)
-
-  pub blocks-inside : (r : Range) → List·Mem r (hashBlocks f) → Inside f r
-  unfolding hashBlocks Inside
-  blocks-inside r m =
-      ∥∥₁-elim (mem-flatMap (λ (i : ℕ). blockRanges (blockOf f i)) (numbers 0 (suc (partitions f))) m) le-prop
-      (λ t. block-inside (t .0) (t .1) r (t .2))
+  pub hash-entry-stated : Kept rule17 f
+      → ((noBlock (hashBlock f p) ≡ true) × (hashEntry f p ≡ 0))
+      ⊎ ((k : ℕ)
+      × (k < entriesIn (hashBlock f p .size))
+      × (hashEntry f p ≡ 4 * hashBlock f p .offset + 52 * k)
+      × (wordAt (f .bytes) (hashEntry f p) ≡ p)
+      × ((j : ℕ) → j < entriesIn (hashBlock f p .size) → wordAt (f .bytes) (4 * hashBlock f p .offset + 52 * j) ≡ p → j ≡ k))
+  unfolding hashEntry entryAt
+  hash-entry-stated k =
+      ⊎-elim (λ e. inl (e, no-entry (f .bytes) p (hashBlock f p) e))
+      (λ e.
+      let kept = kept-with-table 17 hashBlockWrong f k p (numbers-mem 0 (suc (partitions f)) (omega arith) (omega arith)) in
+      let t = own-entry (f .bytes) p (hashBlock f p) (not-bad f p e kept) in
+      inr (t .0, t .1, t .2, ap (wordAt (f .bytes)) (t .2) ∙ t .3, t .4))
+      (either (noBlock (hashBlock f p)))

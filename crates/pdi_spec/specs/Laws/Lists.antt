@@ -1,10 +1,14 @@
 -- Laws of lists in general, for the proofs of the other files: the entries that pass a test, and lists joined. Assumes nothing.
+use Prim.Native.Nat.{ℕ, zero, suc, _+_, _*_}
+use native.Mathlib.Nat.{mul-zero, mul-suc}
+use native.Mathlib.Omega.{arith}
 use mathlib.Core.Bool.{Bool, true, false, cond}
 use mathlib.Core.List.{List, [], _∷_, _++_, flatMap, List·Mem, mem-cons-self, mem-cons-of-mem, mem-append, mem-append-left, mem-append-right, not-mem-nil, eq-or-mem-of-mem-cons, Sublistᴰ, Sublistᴰ·slnil, Sublistᴰ·cons, Sublistᴰ·cons-cons, Pairwise, Pairwise·nil, Pairwise·cons, List·Nodup, nodup-append, Disjoint}
 use mathlib.Core.Logic.{∥∥₁-elim, ∥∥₁-map, ∥∥₁-prop, Or·elim}
 use mathlib.Core.HLevel.{⊥-prop}
-use mathlib.Core.Path.{refl, sym, subst}
-use Rattle.pdi_spec.specs.Lists.{those}
+use mathlib.Core.Path.{_≡_, refl, sym, _∙_, ap, subst}
+use lib.ListN.{length, length-append}
+use Rattle.pdi_spec.specs.{Lists.numbers, Lists.those}
 
 -- the entries that pass a test are some of the list, in its order
 pub those-sublist : {A : Type 0} (test : A → Bool) (xs : List A) → Sublistᴰ (those test xs) xs
@@ -44,6 +48,27 @@ module _ {A B : Type 0} (f : A → List B) where
       apart : Disjoint (f x) (flatMap f xs)
       apart y here later = ∥∥₁-elim (mem-flatMap xs later) ⊥-prop (λ r. h (r .0) (r .1) y here (r .2))
 
+-- lists of one length, joined
+pub flatMap-length : {A B : Type 0} (width : ℕ) (f : A → List B) → ((x : A) → length (f x) ≡ width) → (xs : List A)
+    → length (flatMap f xs) ≡ width * length xs
+unfolding flatMap
+flatMap-length width f h [] = sym (mul-zero width)
+flatMap-length width f h (x ∷ xs) =
+    length-append (f x) (flatMap f xs) ∙ omega (arith, h x, flatMap-length width f h xs, mul-suc width (length xs))
+
+-- one number more, at the end
+pub numbers-more : (a n : ℕ) → numbers a (suc n) ≡ numbers a n ++ ((a + n) ∷ [])
+unfolding numbers
+numbers-more a zero = ap (λ (x : ℕ). x ∷ []) {x = a} {y = a + 0} (omega arith)
+numbers-more a (suc n) =
+    ap (λ (l : List ℕ). a ∷ l)
+    (numbers-more (suc a) n ∙ ap (λ (x : ℕ). numbers (suc a) n ++ (x ∷ [])) {x = suc a + n} {y = a + suc n} (omega arith))
+
+pub numbers-length : (a n : ℕ) → length (numbers a n) ≡ n
+unfolding numbers
+numbers-length a zero = refl
+numbers-length a (suc n) = ap suc (numbers-length (suc a) n)
+
 -- ---- what holds of every entry of a list, written out entry by entry
 
 abbrev pub Every : {A : Type 0} → (A → Type 0) → List A → Type 0
@@ -54,7 +79,3 @@ pub every-mem : {A : Type 0} (P : A → Type 0) → ((x : A) → IsProp (P x)) �
 every-mem P prop [] h x m = absurd (not-mem-nil m)
 every-mem P prop (y ∷ ys) h x m =
     Or·elim (prop x) (eq-or-mem-of-mem-cons m) (λ e. subst P (sym e) (h .0)) (λ k. every-mem P prop ys (h .1) x k)
-
-pub every-append : {A : Type 0} (P : A → Type 0) (xs ys : List A) → Every P xs → Every P ys → Every P (xs ++ ys)
-every-append P [] ys h k = k
-every-append P (x ∷ xs) ys h k = (h .0, every-append P xs ys (h .1) k)

@@ -6,16 +6,12 @@ use native.Mathlib.Bridge.{le-prop}
 use native.Mathlib.Omega.{arith}
 use mathlib.Core.Bool.{Bool, true, false, cond, Bool-set}
 use mathlib.Core.List.{List, [], _∷_, List·Mem, eq-or-mem-of-mem-cons, not-mem-nil, mem-cons-self, mem-cons-of-mem, mem-map-of-mem, Perm, Perm·symm, Perm·mem-iff, Perm·pairwise, Pairwise, Pairwise·nil, Pairwise·cons, Pairwise·imp, Pairwise·imp-of-mem, Pairwise·of-map, Pairwise·sublistᴰ, List·Nodup, Disjoint}
-use mathlib.Core.Logic.{_⊎_, inl, inr, Or·elim, ∥∥₁-elim}
+use mathlib.Core.Logic.{_↔_, _⊎_, inl, inr, Or·elim, ∥∥₁-elim, ∥∥₁-map, ∥∥₁-prop}
 use mathlib.Core.Path.{_≡_, refl, sym, _∙_, ap, fun-ext}
 use lib.ListN.{getD}
 use borrow.Author.Tests.{ltb-false}
-use Rattle.pdi_spec.specs.Lists.{numbers, anyOf}
-use Rattle.pdi_spec.specs.Ranges.{endOf, past, LoadRange, meet, loadsTo, addressSpace}
-use Rattle.pdi_spec.specs.Stated.{Stated, partitionsOf, loadable}
-use Rattle.pdi_spec.specs.Loading.{Memory, Feed, target, step, load, Whole, addressesWritten, Loaded}
-use Rattle.pdi_spec.specs.Laws.Lists.{those-sublist, mem-flatMap, nodup-flatMap}
-use Rattle.pdi_spec.specs.Laws.Tests.{is-not-true, never-both, either, any-entry, none-entry, mem-numbers, numbers-ascending, bounds-within, overlap-turned, apart}
+use Rattle.pdi_spec.specs.{Lists.numbers, Lists.anyOf, Ranges.endOf, Ranges.past, Ranges.LoadRange, Ranges.meet, Ranges.loadsTo, Ranges.addressSpace, Stated.Stated, Stated.partitionsOf, Stated.loadable, Loading.Memory, Loading.Feed, Loading.target, Loading.step, Loading.load, Loading.Whole, Loading.addressesWritten, Loading.Loaded}
+use Rattle.pdi_spec.specs.Laws.{Lists.those-sublist, Lists.mem-flatMap, Lists.flatMap-mem, Lists.nodup-flatMap, Tests.is-not-true, Tests.never-both, Tests.either, Tests.any-entry, Tests.none-entry, Tests.mem-numbers, Tests.numbers-mem, Tests.numbers-ascending, Tests.within-bounds, Tests.bounds-within, Tests.overlap-turned, Tests.apart}
 
 -- ---- two load ranges
 
@@ -164,3 +160,13 @@ loads-whole s clear low m feeds w =
       inside = λ address l.
           ∥∥₁-elim (mem-flatMap _ feeds l) le-prop (λ r. below (target s (r .0)) (low _ (fed s w (r .0) (r .1))) (r .2));
     }
+
+-- the addresses written are those of the fed partitions' load ranges
+pub addresses-are : (s : Stated) (feeds : List Feed) (address : ℕ)
+    → List·Mem address (addressesWritten s feeds)
+    ↔ ∥ ((d : Feed) × List·Mem d feeds × (loadsTo (s .loadRange (d .partition)) address ≡ true)) ∥₁
+unfolding addressesWritten target loadsTo
+addresses-are s feeds address = (
+  λ m. ∥∥₁-map (mem-flatMap _ feeds m) (λ t. (t .0, t .1, listed (s .loadRange (t .0 .partition)) (t .2))),
+  λ h. ∥∥₁-elim h ∥∥₁-prop (λ t. let b = within-bounds _ address (t .2) in flatMap-mem _ feeds (t .1) (numbers-mem _ _ (b .0) (b .1))),
+)

@@ -2,7 +2,7 @@
 use Prim.Native.Nat.{ℕ, zero, suc, _+_, _≤_, _<_, min, max}
 use native.Mathlib.Omega.{arith}
 use native.Mathlib.Decide.{decLe}
-use mathlib.Core.Bool.{Bool, true, false, _&&_, _||_, not, true≢false, false≢true, Bool-set}
+use mathlib.Core.Bool.{Bool, true, false, _&&_, _||_, not, true≢false, false≢true, Bool-set, and-eq-true-iff}
 use mathlib.Core.List.{List, [], _∷_, List·Mem, List·Memᴰ, List·Memᴰ·head, List·Memᴰ·cases-cons, mem-cons-of-mem, not-mem-nil, singleton-sublist, Sublist, Sublistᴰ·cons, Sublistᴰ·cons-cons, Sublistᴰ·eq-nil, Sublistᴰ·cases-cons-cons, cons≢nil, Pairwise, Pairwise·nil, Pairwise·cons}
 use mathlib.Core.HLevel.{×-prop}
 use mathlib.Core.Logic.{_⊎_, inl, inr, ⊎-elim, ∥∥₁-elim, ∥∥₁-map}
@@ -11,8 +11,7 @@ use mathlib.Core.Path.{_≡_, refl, sym, _∙_, ap}
 use lib.Dec.{leb, ltb}
 use lib.ListN.{getD}
 use borrow.Author.Tests.{ltb-true, leb-true, lt-ltb, le-leb}
-use Rattle.pdi_spec.specs.Lists.{numbers, anyTrue, anyOf, anyPair}
-use Rattle.pdi_spec.specs.Ranges.{Range, endOf, within, overlap}
+use Rattle.pdi_spec.specs.{Lists.numbers, Lists.anyTrue, Lists.anyOf, Lists.anyPair, Ranges.Range, Ranges.endOf, Ranges.within, Ranges.overlap}
 
 -- ---- Boolean tests
 
@@ -52,14 +51,9 @@ pub and-both : (a b : Bool) → a ≡ true → b ≡ true → (a && b) ≡ true
 and-both true b e h = h
 and-both false b e h = e
 
--- `not` both ways
 pub not-is-false : (a : Bool) → not a ≡ false → a ≡ true
 not-is-false true e = refl
 not-is-false false e = absurd (true≢false e)
-
-pub not-is-true : (a : Bool) → not a ≡ true → a ≡ false
-not-is-true true e = absurd (false≢true e)
-not-is-true false e = refl
 
 pub is-not-true : (a : Bool) → (a ≡ true → ⊥) → a ≡ false
 is-not-true true h = absurd (h refl)
@@ -82,16 +76,13 @@ false-at (b ∷ tests) e (suc i) = false-at tests (or-right b (anyTrue tests) e)
 
 -- ---- numbers from .. on
 
--- a bound is a proposition, so it may be drawn from a membership
-pub mere-bounds : {A : Type 0} {a b c d : ℕ} → ∥ A ∥₁ → (A → (a ≤ b) × (c ≤ d)) → (a ≤ b) × (c ≤ d)
-mere-bounds m f = ∥∥₁-elim m (×-prop le-prop le-prop) f
-
 pub mem-numbers : {x : ℕ} (a n : ℕ) → List·Mem x (numbers a n) → (a ≤ x) × (x < a + n)
 unfolding numbers
 mem-numbers a zero m = absurd (not-mem-nil m)
-mem-numbers {x} a (suc n) m = mere-bounds m (λ d. go (mem-numbers (suc a) n) (List·Memᴰ·cases-cons d))
+mem-numbers {x} a (suc n) m = ∥∥₁-elim m (×-prop le-prop le-prop) (λ d. go (mem-numbers (suc a) n) (List·Memᴰ·cases-cons d))
   where
-    go : (List·Mem x (numbers (suc a) n) → (suc a ≤ x) × (x < suc a + n)) → (x ≡ a) ⊎ List·Memᴰ x (numbers (suc a) n) → (a ≤ x) × (x < a + suc n)
+    go : (List·Mem x (numbers (suc a) n) → (suc a ≤ x) × (x < suc a + n)) → (x ≡ a) ⊎ List·Memᴰ x (numbers (suc a) n)
+        → (a ≤ x) × (x < a + suc n)
     go ih (inl e) = (omega arith, omega arith)
     go ih (inr d) = let h = ih ∣ d ∣₁ in (omega (arith, h .0), omega (arith, h .1))
 
@@ -157,7 +148,8 @@ module _ {A : Type 0} where
   entries-pair test {x} {y} (z ∷ zs) s h =
       ∥∥₁-elim s (Bool-set (anyPair test (z ∷ zs)) true)
       (λ d. ⊎-elim (λ d′. or-inr (anyOf (test z) zs) (anyPair test zs) (entries-pair test zs ∣ d′ ∣₁ h))
-      (λ k. or-inl (anyOf (test z) zs) (anyPair test zs) (entry-any (test z) zs (singleton-sublist .0 ∣ k .1 ∣₁) (ap (λ (w : A). test w y) (sym (k .0)) ∙ h)))
+      (λ k. or-inl (anyOf (test z) zs) (anyPair test zs)
+      (entry-any (test z) zs (singleton-sublist .0 ∣ k .1 ∣₁) (ap (λ (w : A). test w y) (sym (k .0)) ∙ h)))
       (Sublistᴰ·cases-cons-cons d))
 
 -- ---- ranges
@@ -165,21 +157,21 @@ module _ {A : Type 0} where
 pub within-bounds : (r : Range) (x : ℕ) → within r x ≡ true → (r .start ≤ x) × (x < r .start + r .size)
 unfolding within endOf
 within-bounds r x e =
-    let low = leb-true (r .start) x (and-left (leb (r .start) x) (ltb x (r .start + r .size)) e) in
-    let high = ltb-true x (r .start + r .size) (and-right (leb (r .start) x) (ltb x (r .start + r .size)) e) in
-    (low, high)
+    let both = and-eq-true-iff (leb (r .start) x) (ltb x (r .start + r .size)) .0 e in
+    (leb-true (r .start) x (both .0), ltb-true x (r .start + r .size) (both .1))
 
 pub bounds-within : (r : Range) (x : ℕ) → r .start ≤ x → x < r .start + r .size → within r x ≡ true
 unfolding within endOf
 bounds-within r x low high =
-    and-both (leb (r .start) x) (ltb x (r .start + r .size)) (le-leb (r .start) x low) (lt-ltb x (r .start + r .size) high)
+    and-eq-true-iff (leb (r .start) x) (ltb x (r .start + r .size)) .1 (le-leb (r .start) x low, lt-ltb x (r .start + r .size) high)
 
 -- two ranges overlap exactly where a number lies in both
 pub overlap-shared : (a b : Range) → overlap a b ≡ true → (x : ℕ) × (within a x ≡ true) × (within b x ≡ true)
 unfolding overlap endOf
 overlap-shared a b e =
     let h = ltb-true (max (a .start) (b .start)) (min (a .start + a .size) (b .start + b .size)) e in
-    (max (a .start) (b .start), bounds-within a (max (a .start) (b .start)) (omega arith) (omega (arith, h)), bounds-within b (max (a .start) (b .start)) (omega arith) (omega (arith, h)))
+    let x = max (a .start) (b .start) in
+    (x, bounds-within a x (omega arith) (omega (arith, h)), bounds-within b x (omega arith) (omega (arith, h)))
 
 pub shared-overlap : (a b : Range) (x : ℕ) → within a x ≡ true → within b x ≡ true → overlap a b ≡ true
 unfolding overlap endOf

@@ -2,7 +2,7 @@
 use borrow.Author.Needs.{needs}
 use mathlib.Core.Path.{sym}
 use Rattle.pdi_spec.specs.Words.{byteAt}
-use Rattle.words.proofs.Sums.{byte-past}
+use lib.ListN.{List·getD-eq-default}
 use Rattle.words.proofs.byte_at.Statement.{statement}
 use Rattle.words.proofs.byte_at.Tie as tie
 
@@ -14,7 +14,8 @@ unfolding byteAt
 returns c = search needs
 
 returns-2 : tie.Need-returns-2
-returns-2 c = sym (byte-past _ _ (c .if1 .left))
+unfolding byteAt
+returns-2 c = sym (List·getD-eq-default (c .before .args .s .now) 0 (c .if1 .left))
 
 pub byte-at-spec : {M : Type 1} → statement M
 byte-at-spec = tie.close (tie.spec shared-slice-read-result returns returns-2)

@@ -1,9 +1,20 @@
--- `reader::bodies::body` meets its contract. Assumes nothing.
+-- `reader::bodies::body` meets its contract (Questions.antt). Assumes nothing.
 use borrow.Author.Needs.{needs}
 use native.Mathlib.Omega.{arith}
-use Rattle.reader.proofs.Questions.{long-body, refused-body, few-read, small-body, large-body, end-fits, checked-body}
+use mathlib.Core.Logic.{inl, inr}
+use mathlib.Core.Path.{_∙_}
+use Rattle.reader.proofs.Questions.{behind, refused-body, no-body, ends, part-is}
 use Rattle.reader.proofs.bodies.body.Statement.{statement}
 use Rattle.reader.proofs.bodies.body.Tie as tie
+
+check-requires : tie.Need-check-requires
+check-requires c κs = search needs
+
+enum-known-reading : tie.Need-enum-known-reading
+enum-known-reading c = search needs
+
+enum-told : tie.Need-enum-told
+enum-told c = search needs
 
 sub-result : tie.Need-sub-result
 sub-result c = search needs
@@ -15,16 +26,12 @@ part-result-end : tie.Need-part-result-end
 part-result-end c = search needs
 
 returns : tie.Need-returns
-returns c = long-body (c .before .before .before .args .image .now) (c .before .before .before .args .place) (c .before .before .before .args .p) (c .before .if1 .taken)
+returns c =
+    behind (c .before .before .before .before .before .before .before .args .image .now)
+    ∙ refused-body _ _ (c .before .before .before .check .ensures) (c .before .enum-told .given .1) _
 
-check-requires : tie.Need-check-requires
-check-requires c κs = search needs
-
-enum-told : tie.Need-enum-told
-enum-told c = search needs
-
-enum-told-2 : tie.Need-enum-told-2
-enum-told-2 c = search needs
+cast-n : tie.Need-cast-n
+cast-n c = search needs
 
 sub-result-2 : tie.Need-sub-result-2
 sub-result-2 c = search needs
@@ -37,10 +44,9 @@ part-result-end-2 c = search needs
 
 returns-2 : tie.Need-returns-2
 returns-2 c =
-    refused-body (c .before .before .before .before .before .before .args .image .now) (c .before .before .before .before .before .before .args .place) (c .before .before .before .before .if1 .left) (c .before .before .before .check .ensures) (c .before .enum-told2 .given .1) (c .before .before .before .before .before .before .args .p)
-
-cast-n : tie.Need-cast-n
-cast-n c = search needs
+    let d = c .before .before .before .before in
+    behind (c .before .before .before .before .before .before .before .before .before .before .args .image .now)
+    ∙ no-body _ _ (d .before .before .check .ensures) (d .reading .given .1) _ (inl (c .before .if1 .taken))
 
 sub-result-3 : tie.Need-sub-result-3
 sub-result-3 c = search needs
@@ -53,27 +59,14 @@ part-result-end-3 c = search needs
 
 returns-3 : tie.Need-returns-3
 returns-3 c =
-    small-body (c .before .before .before .before .before .before .before .before .before .args .image .now) (c .before .before .before .before .before .before .before .before .before .args .place) (c .before .before .before .before .before .before .before .if1 .left) (c .before .before .before .before .before .before .check .ensures) (c .before .before .before .before .enum-told .given .1) (c .before .before .before .before .before .before .before .before .before .args .p) (c .before .if2 .taken)
+    let d = c .before .before .before .before .before in
+    behind (c .before .before .before .before .before .before .before .before .before .before .before .args .image .now)
+    ∙ no-body _ _ (d .before .before .check .ensures) (d .reading .given .1) _ (inr (c .before .if2 .taken))
 
-sub-result-4 : tie.Need-sub-result-4
-sub-result-4 c = search needs
-
-part-result-start-4 : tie.Need-part-result-start-4
-part-result-start-4 c = search needs
-
-part-result-end-4 : tie.Need-part-result-end-4
-part-result-end-4 c = search needs
-
-returns-4 : tie.Need-returns-4
-returns-4 c =
-    large-body (c .before .before .before .before .before .before .before .before .before .before .args .image .now) (c .before .before .before .before .before .before .before .before .before .before .args .place) (c .before .before .before .before .before .before .before .before .if1 .left) (c .before .before .before .before .before .before .before .check .ensures) (c .before .before .before .before .before .enum-told .given .1) (c .before .before .before .before .before .before .before .before .before .before .args .p) (c .before .if3 .taken)
-
-mul-h : tie.Need-mul-h
-mul-h c = search needs
-
-array-copy-out-h : tie.Need-array-copy-out-h
-array-copy-out-h c =
-    omega (arith, c .before .before .if2 .left, c .before .if3 .left, few-read (c .before .before .before .before .before .before .before .before .before .before .args .image .now) (c .before .before .before .before .before .before .before .before .before .before .args .place) (c .before .before .before .before .before .before .before .before .if1 .left) (c .before .before .before .before .before .before .before .check .ensures) (c .before .before .before .before .before .enum-told .given .1))
+header-at-requires : tie.Need-header-at-requires
+header-at-requires c κs =
+    let d = c .before .before .before .before .before in
+    (d .before .before .check .ensures .held _ _ (d .reading .given .1) .chain, omega arith)
 
 cast-start : tie.Need-cast-start
 cast-start c = search needs
@@ -90,52 +83,51 @@ mul-end c = search needs
 add-end : tie.Need-add-end
 add-end c = search needs
 
-sub-result-5 : tie.Need-sub-result-5
-sub-result-5 c = search needs
+sub-result-4 : tie.Need-sub-result-4
+sub-result-4 c = search needs
 
-part-result-start-5 : tie.Need-part-result-start-5
-part-result-start-5 c = search needs
+part-result-start-4 : tie.Need-part-result-start-4
+part-result-start-4 c = search needs
 
-part-result-end-5 : tie.Need-part-result-end-5
-part-result-end-5 c =
-    end-fits (c .before .before .before .before .before .before .before .before .before .before .before .before .before .args .image .now) (c .before .before .before .before .before .before .before .before .before .before .before .before .before .args .place) (c .before .before .before .before .before .before .before .before .before .before .before .if1 .left) (c .before .before .before .before .before .before .before .before .before .before .check .ensures) (c .before .before .before .before .before .before .before .before .enum-told .given .1) (c .before .before .before .before .before .before .before .before .before .before .before .before .before .args .p) (c .before .before .before .before .before .if2 .left) (c .before .before .before .before .if3 .left) _
+part-result-end-4 : tie.Need-part-result-end-4
+part-result-end-4 c =
+    let d = c .before .before .before .before .before .before .before .before in
+    ends _ _ (d .before .before .check .ensures) (d .reading .given .1) _ (omega arith) (omega arith)
+    (c .before .before .header-at .ensures)
 
-returns-5 : tie.Need-returns-5
-returns-5 c =
-    checked-body (c .before .before .before .before .before .before .before .before .before .before .before .before .before .before .args .image .now) (c .before .before .before .before .before .before .before .before .before .before .before .before .before .before .args .place) (c .before .before .before .before .before .before .before .before .before .before .before .before .if1 .left) (c .before .before .before .before .before .before .before .before .before .before .before .check .ensures) (c .before .before .before .before .before .before .before .before .before .enum-told .given .1) (c .before .before .before .before .before .before .before .before .before .before .before .before .before .before .args .p) (c .before .before .before .before .before .before .if2 .left) (c .before .before .before .before .before .if3 .left) _
+returns-4 : tie.Need-returns-4
+returns-4 c =
+    let d = c .before .before .before .before .before .before .before .before .before in
+    part-is _ _ (d .before .before .check .ensures) (d .reading .given .1) _ (omega arith) (omega arith)
+    (c .before .before .before .header-at .ensures)
 
 pub body-spec : {M : Type 1} → statement M
 body-spec =
     tie.close
     (tie.spec
+    check-requires
+    enum-known-reading
+    enum-told
     sub-result
     part-result-start
     part-result-end
     returns
-    check-requires
-    enum-told
-    enum-told-2
+    cast-n
     sub-result-2
     part-result-start-2
     part-result-end-2
     returns-2
-    cast-n
     sub-result-3
     part-result-start-3
     part-result-end-3
     returns-3
-    sub-result-4
-    part-result-start-4
-    part-result-end-4
-    returns-4
-    mul-h
-    array-copy-out-h
+    header-at-requires
     cast-start
     mul-start
     cast-end
     mul-end
     add-end
-    sub-result-5
-    part-result-start-5
-    part-result-end-5
-    returns-5)
+    sub-result-4
+    part-result-start-4
+    part-result-end-4
+    returns-4)

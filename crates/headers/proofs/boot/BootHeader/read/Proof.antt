@@ -1,7 +1,7 @@
 -- `headers::boot::BootHeader::read` meets its contract: each field is the word at its offset. Below, c1 to c7 are the places where
 -- each word has been read, cx that of the identification. Assumes nothing.
+use native.Mathlib.Omega.{arith}
 use Rattle.pdi_spec.specs.Headers.{bootFrom, XNLX}
-use Rattle.headers.proofs.Calls.{nothing}
 use Rattle.headers.proofs.boot.BootHeader.read.Statement.{statement}
 use Rattle.headers.proofs.boot.BootHeader.read.Tie as tie
 
@@ -30,4 +30,7 @@ returns c =
 
 pub read-spec : {M : Type 1} → statement M
 read-spec =
-    tie.close (tie.spec nothing nothing nothing nothing nothing nothing nothing nothing nothing returns)
+    tie.close
+    (tie.spec (λ c κs. omega arith) (λ c κs. omega arith) (λ c κs. omega arith)
+    (λ c κs. omega arith) (λ c κs. omega arith) (λ c κs. omega arith)
+    (λ c κs. omega arith) (λ c κs. omega arith) (λ c κs. omega arith) returns)

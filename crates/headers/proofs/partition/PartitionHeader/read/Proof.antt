@@ -1,6 +1,7 @@
 -- `headers::partition::PartitionHeader::read` meets its contract: each field is the word at its offset. Below, c1 to c17 are the
 -- places where each word has been read, ce and cb those of the execution address and the block. Assumes nothing.
 use Prim.Native.Nat.{ℕ, _+_, _*_, _^_}
+use native.Mathlib.Omega.{arith}
 use mathlib.Core.Path.{_∙_, ap₂}
 use Rattle.pdi_spec.specs.Headers.{headerFrom}
 use Rattle.headers.proofs.Calls.{nothing}
@@ -51,10 +52,24 @@ returns c =
       checksum = c .word18 .ensures i;
     }
 
+-- The function's entry, from the thirteenth word on: `omega` looks only so far back, so it is shown the requirement there.
+abbrev entry : tie.After-word13 → tie.Start
+entry c13 =
+    let c9 = c13 .before .before .before .before .before in
+    let c2 = c9 .before .before .before .before .before .before .before .before in
+    c2 .before .before .before
+
 pub read-spec : {M : Type 1} → statement M
 read-spec =
     tie.close
     (tie.spec
-    nothing nothing nothing nothing nothing nothing nothing nothing nothing nothing
-    nothing nothing nothing nothing nothing nothing nothing nothing nothing nothing
+    (λ c κs. omega arith) (λ c κs. omega arith) (λ c κs. omega arith) (λ c κs. omega arith)
+    (λ c κs. omega arith) (λ c κs. omega arith) nothing (λ c κs. omega arith)
+    (λ c κs. omega arith) (λ c κs. omega arith) (λ c κs. omega arith) (λ c κs. omega arith)
+    (λ c κs. omega arith) (λ c κs. omega arith) (λ c κs. omega arith)
+    (λ c κs. omega (arith, entry c .pre))
+    (λ c κs. omega (arith, entry (c .before) .pre))
+    (λ c κs. omega (arith, entry (c .before .before) .pre))
+    (λ c κs. omega (arith, entry (c .before .before .before) .pre))
+    (λ c κs. omega (arith, entry (c .before .before .before .before) .pre))
     returns)

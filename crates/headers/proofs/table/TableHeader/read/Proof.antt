@@ -1,7 +1,7 @@
 -- `headers::table::TableHeader::read` meets its contract: each field is the word at its offset. Below, c1 to c9 are the places
 -- where each word has been read, ck and cb those of the kind and the block. Assumes nothing.
+use native.Mathlib.Omega.{arith}
 use Rattle.pdi_spec.specs.Headers.{tableFrom}
-use Rattle.headers.proofs.Calls.{nothing}
 use Rattle.headers.proofs.table.TableHeader.read.Statement.{statement}
 use Rattle.headers.proofs.table.TableHeader.read.Tie as tie
 
@@ -39,5 +39,7 @@ pub read-spec : {M : Type 1} → statement M
 read-spec =
     tie.close
     (tie.spec
-    nothing nothing nothing nothing nothing nothing nothing nothing nothing nothing nothing nothing
+    (λ c κs. omega arith) (λ c κs. omega arith) (λ c κs. omega arith) (λ c κs. omega arith)
+    (λ c κs. omega arith) (λ c κs. omega arith) (λ c κs. omega arith) (λ c κs. omega arith)
+    (λ c κs. omega arith) (λ c κs. omega arith) (λ c κs. omega arith) (λ c κs. omega arith)
     returns)

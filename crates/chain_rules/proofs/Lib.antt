@@ -1,0 +1,4 @@
+-- Laws for the proofs here and in the later stages. Assumes nothing.
+pub mod Chains
+pub mod Links
+pub mod Verdicts

@@ -1,0 +1,3 @@
+-- Laws for the proofs of this crate. Assumes nothing.
+pub mod Meetings
+pub mod Numbers

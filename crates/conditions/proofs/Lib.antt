@@ -1,3 +1,0 @@
-pub mod Asked
-pub mod Entries
-pub mod Joined

@@ -1,0 +1,134 @@
+-- The core's answer: what each way out of it says of the whole list of rules. Assumes nothing.
+use Prim.Native.Nat.{ℕ, _≤_, _<_}
+use native.Mathlib.Omega.{arith}
+use mathlib.Core.Bool.{Bool, true, false}
+use mathlib.Core.List.{List, _∷_, _++_}
+use mathlib.Core.Path.{_≡_, refl, sym, _∙_, ap, subst}
+use lib.ListN.{length}
+use borrow.Author.Tests.{lt-ltb, le-ltb}
+use Rattle.pdi_spec.specs.Answers.{asked}
+use Rattle.pdi_spec.specs.File.{File, table, partitions}
+use Rattle.pdi_spec.specs.Headers.{tableFrom}
+use Rattle.pdi_spec.specs.Limits.{longestImage, mostPartitions}
+use Rattle.pdi_spec.specs.RuleList.{tableRules, partitionRules, clashRules, plainRules}
+use Rattle.pdi_spec.specs.Rules.{imageTooLong}
+use Rattle.pdi_spec.specs.Verdict.{Rule, once, Outcome, accepted, refused, verdict}
+use Rattle.pdi_spec.specs.Laws.Kept.{counts-stated}
+use Rattle.pdi_spec.specs.Laws.Refusals.{table-p, table-counts}
+use Rattle.pdi_spec.specs.Laws.Verdict.{andThen, accepted-kept}
+use Rattle.headers.specs.Headers.{tableOf}
+use Rattle.headers.specs.declared.table.TableHeader.{TableHeader}
+use Rattle.table_rules.specs.Answers.{toTable, tableAnswerOf, tableAnswer}
+use Rattle.table_rules.specs.declared.TableAnswer.{TableAnswer}
+use Rattle.chain_rules.specs.Answers.{answerOf}
+use Rattle.chain_rules.specs.Chain.{IsTable, fileOf}
+use Rattle.chain_rules.specs.declared.Answer.{Answer}
+use Rattle.core.specs.Readings.{coreRules, outcomeOf, Held, Told}
+use Rattle.core.specs.declared.Reading.{Reading}
+use Rattle.core.proofs.Stages.{plain-split, once-broken, once-kept}
+
+-- ---- the two kinds of answers
+
+module _ {bytes : List ℕ} {place : ℕ} {rs : List Rule} {offsets entries : List ℕ} where
+  pub refused-told : {k p : ℕ} → refused k p ≡ verdict rs (asked bytes place) → Told bytes place rs offsets entries (Reading.Refused k p)
+  unfolding outcomeOf
+  refused-told e = record { told = e; held = λ t bill q. let z : _≡_ {A = ℕ} 0 1 = cc in absurd (omega arith) }
+
+  pub accepted-told : {t : TableHeader} {bill : ℕ} → accepted ≡ verdict rs (asked bytes place) → Held bytes place t bill offsets entries
+      → Told bytes place rs offsets entries (Reading.Accepted t bill)
+  unfolding outcomeOf
+  accepted-told {t} {bill} e h = record {
+    told = e;
+    held = λ u b q.
+        let same-table : t ≡ u = cc in
+        let same-bill : bill ≡ b = cc in
+        subst (λ (x : ℕ). Held bytes place u x offsets entries) same-bill
+        (subst (λ (x : TableHeader). Held bytes place x bill offsets entries) same-table h);
+  }
+
+-- ---- rules 1 and 2
+
+module _ (bytes : List ℕ) (place : ℕ) (short : Bool) (own : List Rule) where
+  pub too-long : longestImage < length bytes → refused 1 0 ≡ verdict (coreRules short own) (asked bytes place)
+  unfolding coreRules imageTooLong
+  too-long h = once-broken 1 imageTooLong _ (asked bytes place) (lt-ltb longestImage (length bytes) h)
+
+  module _ (fits : length bytes ≤ longestImage) where
+    first-kept : verdict (coreRules short own) (asked bytes place) ≡ verdict (once 2 (λ f. short) ∷ own) (asked bytes place)
+    unfolding coreRules imageTooLong
+    first-kept = once-kept 1 imageTooLong _ (asked bytes place) (le-ltb longestImage (length bytes) fits)
+
+    pub too-short : short ≡ true → refused 2 0 ≡ verdict (coreRules short own) (asked bytes place)
+    too-short e = once-broken 2 (λ f. short) own (asked bytes place) e ∙ sym first-kept
+
+    pub passes : short ≡ false → verdict own (asked bytes place) ≡ verdict (coreRules short own) (asked bytes place)
+    passes e = sym (first-kept ∙ once-kept 2 (λ f. short) own (asked bytes place) e)
+
+-- ---- the table's stage
+
+pub table-refused : (f : File) {k : ℕ} → tableAnswer f ≡ TableAnswer.Refused k → refused k 0 ≡ verdict plainRules f
+unfolding tableAnswer tableAnswerOf andThen
+table-refused f {k} e = go (verdict tableRules f) refl e
+  where
+    go : (o : Outcome) → verdict tableRules f ≡ o → tableAnswerOf o (table f) ≡ TableAnswer.Refused k → refused k 0 ≡ verdict plainRules f
+    go accepted q t = let z : _≡_ {A = ℕ} 0 1 = cc in absurd (omega arith)
+    go (refused m p) q t =
+        let same : m ≡ k = cc in
+        let zero : p ≡ 0 = table-p f m p q in
+        sym (plain-split f ∙ rw (q, same, zero) refl)
+
+-- what a checked table is
+pub record TableKept (bytes : List ℕ) (place : ℕ) (t : TableHeader) : Type 0 where
+  pub kept : verdict tableRules (asked bytes place) ≡ accepted
+  pub at-place : t .place ≡ place
+  pub own : IsTable bytes t
+  pub few : t .partitions ≤ mostPartitions
+
+pub table-checked : (bytes : List ℕ) (place : ℕ) {t : TableHeader} → tableAnswer (asked bytes place) ≡ TableAnswer.Checked t
+    → TableKept bytes place t
+unfolding tableAnswer tableAnswerOf table tableFrom partitions
+table-checked bytes place {t} e = go (verdict tableRules (asked bytes place)) refl e
+  where
+    go : (o : Outcome) → verdict tableRules (asked bytes place) ≡ o
+        → tableAnswerOf o (table (asked bytes place)) ≡ TableAnswer.Checked t → TableKept bytes place t
+    go (refused m p) q h = let z : _≡_ {A = ℕ} 0 1 = cc in absurd (omega arith)
+    go accepted q h =
+        let same : toTable (table (asked bytes place)) ≡ t = cc in
+        let at : place ≡ t .place = ap (λ (u : TableHeader). u .place) same in
+        let few = counts-stated (asked bytes place) (accepted-kept tableRules (asked bytes place) q table-counts) .3 in
+        record {
+          kept = q;
+          at-place = sym at;
+          own = sym (ap tableOf same) ∙ ap (λ (p : ℕ). table (asked bytes p)) at;
+          few = subst (λ (u : TableHeader). u .partitions ≤ mostPartitions) same few;
+        }
+
+-- ---- rules 10 to 19
+
+module _ (bytes : List ℕ) (place : ℕ) {t : TableHeader} (k : TableKept bytes place t) where
+  -- what is left to the partitions, of the file that was asked about
+  rest : (o : Outcome) → verdict (partitionRules ++ clashRules) (fileOf bytes t) ≡ o → o ≡ verdict plainRules (asked bytes place)
+  unfolding andThen
+  rest o e =
+      sym (plain-split (asked bytes place)
+      ∙ rw (k .kept) (ap (λ (p : ℕ). verdict (partitionRules ++ clashRules) (asked bytes p)) (sym (k .at-place)) ∙ e))
+
+  pub all-kept : {r : Answer} → r ≡ answerOf (verdict (partitionRules ++ clashRules) (fileOf bytes t)) → r ≡ Answer.Kept
+      → accepted ≡ verdict plainRules (asked bytes place)
+  unfolding answerOf
+  all-kept told e = go (verdict (partitionRules ++ clashRules) (fileOf bytes t)) refl (sym told ∙ e)
+    where
+      go : (o : Outcome) → verdict (partitionRules ++ clashRules) (fileOf bytes t) ≡ o → answerOf o ≡ Answer.Kept
+          → accepted ≡ verdict plainRules (asked bytes place)
+      go accepted q h = rest accepted q
+      go (refused m p) q h = let z : _≡_ {A = ℕ} 0 1 = cc in absurd (omega arith)
+
+  pub one-refused : {r : Answer} {m p : ℕ} → r ≡ answerOf (verdict (partitionRules ++ clashRules) (fileOf bytes t)) → r ≡ Answer.Refused m p
+      → refused m p ≡ verdict plainRules (asked bytes place)
+  unfolding answerOf
+  one-refused {r} {m} {p} told e = go (verdict (partitionRules ++ clashRules) (fileOf bytes t)) refl (sym told ∙ e)
+    where
+      go : (o : Outcome) → verdict (partitionRules ++ clashRules) (fileOf bytes t) ≡ o → answerOf o ≡ Answer.Refused m p
+          → refused m p ≡ verdict plainRules (asked bytes place)
+      go accepted q h = let z : _≡_ {A = ℕ} 0 1 = cc in absurd (omega arith)
+      go (refused a b) q h = let same : refused m p ≡ refused a b = cc in same ∙ rest (refused a b) q

@@ -1,0 +1,63 @@
+-- The stages joined: what their answers say of the whole list of rules. Assumes nothing.
+use Prim.Native.Nat.{ℕ}
+use native.Mathlib.Omega.{arith}
+use mathlib.Core.Bool.{Bool, true, false}
+use mathlib.Core.List.{List, [], _∷_, _++_}
+use mathlib.Core.Option.{Option·elim}
+use mathlib.Core.Path.{_≡_, refl, _∙_, ap}
+use Rattle.pdi_spec.specs.File.{File}
+use Rattle.pdi_spec.specs.Lists.{firstOf}
+use Rattle.pdi_spec.specs.RuleList.{rule10, rule17, rule18, rule19, headerRules, tableRules, partitionRules, clashRules, readingRules, plainRules}
+use Rattle.pdi_spec.specs.Verdict.{Rule, once, Outcome, accepted, refused, verdict}
+use Rattle.pdi_spec.specs.Laws.Verdict.{andThen, verdict-append}
+use Rattle.chain_rules.specs.Answers.{answerOf}
+use Rattle.chain_rules.specs.declared.Answer.{Answer}
+
+-- a stage that refuses settles the answer, and one that doesn't leaves it to the next
+pub stops : (o later : Outcome) {r : Answer} {k p : ℕ} → r ≡ answerOf o → r ≡ Answer.Refused k p → r ≡ answerOf (andThen o later)
+unfolding answerOf andThen
+stops o later {r} told e = go o told
+  where
+    go : (o′ : Outcome) → r ≡ answerOf o′ → r ≡ answerOf (andThen o′ later)
+    go accepted q = let z : _≡_ {A = ℕ} 0 1 = cc in absurd (omega arith)
+    go (refused m n) q = q
+
+pub goes-on : (o later : Outcome) {r : Answer} → r ≡ answerOf o → r ≡ Answer.Kept → answerOf later ≡ answerOf (andThen o later)
+unfolding answerOf andThen
+goes-on o later {r} told e = go o told
+  where
+    go : (o′ : Outcome) → r ≡ answerOf o′ → answerOf later ≡ answerOf (andThen o′ later)
+    go accepted q = refl
+    go (refused m n) q = let z : _≡_ {A = ℕ} 0 1 = cc in absurd (omega arith)
+
+pub never : {r : Answer} {k p : ℕ} → r ≡ Answer.Refused k p → r ≡ Answer.Kept → ⊥
+never e q = let z : _≡_ {A = ℕ} 0 1 = cc in omega arith
+
+-- rules 10 to 19, stage by stage
+pub partitions-split : (f : File) → verdict (partitionRules ++ clashRules) f
+    ≡ andThen (verdict (rule10 ∷ []) f)
+    (andThen (verdict headerRules f) (andThen (verdict (rule17 ∷ []) f) (andThen (verdict (rule18 ∷ []) f) (verdict (rule19 ∷ []) f))))
+unfolding partitionRules clashRules headerRules
+partitions-split f =
+    verdict-append (rule10 ∷ []) _ f
+    ∙ ap (andThen (verdict (rule10 ∷ []) f))
+    (verdict-append headerRules _ f
+    ∙ ap (andThen (verdict headerRules f))
+    (verdict-append (rule17 ∷ []) _ f
+    ∙ ap (andThen (verdict (rule17 ∷ []) f)) (verdict-append (rule18 ∷ []) (rule19 ∷ []) f)))
+
+-- plain reading's rules: the table's, and then those of the partitions
+pub plain-split : (f : File) → verdict plainRules f ≡ andThen (verdict tableRules f) (verdict (partitionRules ++ clashRules) f)
+unfolding plainRules readingRules tableRules
+plain-split f = verdict-append tableRules (partitionRules ++ clashRules) f
+
+-- ---- rules that are tried once, before them
+
+module _ (k : ℕ) (c : File → Bool) (rs : List Rule) (f : File) where
+  pub once-broken : c f ≡ true → refused k 0 ≡ verdict (once k c ∷ rs) f
+  unfolding verdict once firstOf Option·elim
+  once-broken e = rw e refl
+
+  pub once-kept : c f ≡ false → verdict (once k c ∷ rs) f ≡ verdict rs f
+  unfolding verdict once firstOf Option·elim
+  once-kept e = rw e refl

@@ -1,5 +1,0 @@
-pub mod Blocks
-pub mod Chained
-pub mod Conditions
-pub mod Searches
-pub mod Table
