@@ -9,7 +9,9 @@ ghost use Rattle.envelope.specs.Opened.{openedAs};
 
 // What the input holds: bad, or an image, and this table place.
 pub enum Opened {
+    // Another version, a stated length over the longest, or too few or too many bytes.
     Bad,
+    // The table place; the image is the part behind the head.
     Holds(usize),
 }
 
