@@ -27,6 +27,7 @@ test_cases() {
         done
     done <cases.tsv
     check "the bench image is the one in examples/" cmp -s bench.pdi "$root/examples/bench.pdi"
+    check "the cases of bench_cases are document 01's" cmp -s <(python3 "$here/bench_cases.py") "$root/crates/bench_cases/stdin"
     same "numbers that the cases have" "0 $(seq -s ' ' 3 "$PDI_LAST_RULE")" "$(cut -f 3 cases.tsv | sort -nu | paste -sd ' ')"
 }
 

@@ -212,4 +212,5 @@ def main():
     (directory / "cases.tsv").write_text("".join(line + "\n" for line in lines))
 
 
-main()
+if __name__ == "__main__":
+    main()

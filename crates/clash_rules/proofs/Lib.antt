@@ -1,3 +1,2 @@
--- Laws for the proofs of this crate. Assumes nothing.
+-- Laws for the proofs here. Assumes nothing.
 pub mod Meetings
-pub mod Numbers

@@ -19,7 +19,7 @@ use Rattle.pdi_spec.specs.Ranges.{Range, endOf, overlap, meet, loads, loadRange
 use Rattle.pdi_spec.specs.RuleList.{rule19}
 use Rattle.pdi_spec.specs.Rules.{loadRangesClash}
 use Rattle.pdi_spec.specs.Verdict.{each, verdict, accepted, refused}
-use Rattle.clash_rules.specs.Parts.{loadOf, partOf}
+use Rattle.range_lists.specs.Parts.{loadOf, partOf}
 use Rattle.pairs.proofs.Following.{apart}
 
 abbrev none : Range

@@ -1,5 +1,4 @@
 // Rules 18 and 19: stored ranges that clash, and load ranges that clash.
-mod lists;
 mod loads;
 mod stored;
 

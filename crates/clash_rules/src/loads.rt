@@ -6,11 +6,11 @@ ghost use Rattle.pdi_spec.specs.RuleList.{rule19};
 ghost use Rattle.pdi_spec.specs.Verdict.{accepted, verdict};
 ghost use Rattle.chain_rules.specs.Answers.{answerOf};
 ghost use Rattle.chain_rules.specs.Chain.{Chain, fileOf};
-use crate::lists::LOAD;
-use crate::lists::part_at;
 use chain_rules::Answer;
 use headers::MOST_PARTITIONS;
 use headers::TableHeader;
+use range_lists::LOAD;
+use range_lists::part_at;
 use ranges::Range;
 
 // Each load range starts at or after the end of the one before it: a quick yes, after which none meet. A no says nothing.

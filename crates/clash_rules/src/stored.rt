@@ -10,11 +10,15 @@ ghost use Rattle.pdi_spec.specs.Verdict.{verdict};
 ghost use Rattle.pairs.specs.Lists.{Filled, blockClash, mostRanges};
 ghost use Rattle.chain_rules.specs.Answers.{answerOf};
 ghost use Rattle.chain_rules.specs.Chain.{Chain, fileOf};
-use crate::lists;
 use chain_rules::Answer;
 use headers::MOST_PARTITIONS;
 use headers::TableHeader;
 use pairs::MOST_RANGES;
+use range_lists::BODY;
+use range_lists::SPAN;
+use range_lists::put_blocks;
+use range_lists::put_headers;
+use range_lists::put_parts;
 
 // Hash blocks clash with headers or bodies, or with each other. The arrays have the headers, and get the bodies after them.
 fn blocks_clash(
@@ -33,11 +37,11 @@ fn blocks_clash(
 {
     let mut block_starts = [0u64; MOST_RANGES];
     let mut block_sizes = [0u64; MOST_RANGES];
-    let blocks = lists::put_blocks(image, table, offsets, &mut block_starts, &mut block_sizes);
+    let blocks = put_blocks(image, table, offsets, &mut block_starts, &mut block_sizes);
     if blocks == 0 {
         return false;
     }
-    let beside = lists::put_parts(image, table, offsets, lists::BODY, headers, starts, sizes);
+    let beside = put_parts(image, table, offsets, BODY, headers, starts, sizes);
     pairs::any_block_clash(&block_starts, &block_sizes, blocks, starts, sizes, beside)
 }
 
@@ -48,12 +52,12 @@ fn stored_clash(image: &[u8], table: TableHeader, offsets: &[usize; MOST_PARTITI
 {
     let mut starts = [0u64; MOST_RANGES];
     let mut sizes = [0u64; MOST_RANGES];
-    let headers = lists::put_headers(image, table, offsets, &mut starts, &mut sizes);
-    let all = lists::put_parts(
+    let headers = put_headers(image, table, offsets, &mut starts, &mut sizes);
+    let all = put_parts(
         image,
         table,
         offsets,
-        lists::SPAN,
+        SPAN,
         headers,
         &mut starts,
         &mut sizes,

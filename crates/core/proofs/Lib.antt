@@ -1,4 +1,3 @@
 -- Laws for the proofs here and for the questions. Assumes nothing.
 pub mod Outcomes
 pub mod Stages
-pub mod Totals

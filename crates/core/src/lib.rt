@@ -1,14 +1,12 @@
 // The core: a question's rules in their order, one stage after another. Every question stands on it.
-ghost use Prim.Native.Nat.{_<_, _≤_};
+ghost use Prim.Native.Nat.{_≤_};
 ghost use mathlib.Core.Path.{_≡_};
 ghost use lib.ListN.{length};
-ghost use Rattle.pdi_spec.specs.Answers.{billed};
 ghost use Rattle.pdi_spec.specs.Limits.{mostPartitions};
 ghost use Rattle.pdi_spec.specs.RuleList.{plainRules};
-ghost use Rattle.chain_rules.specs.Chain.{Chain, IsTable, fileOf};
+ghost use Rattle.chain_rules.specs.Chain.{IsTable};
 ghost use Rattle.core.specs.Readings.{Partitions, Told, coreRules, numberIn};
 use chain_rules::Answer;
-use chain_rules::header_at;
 use headers::MOST_PARTITIONS;
 use headers::TableHeader;
 use table_rules::TableAnswer;
@@ -24,29 +22,6 @@ pub enum Reading {
     Accepted(TableHeader, u64),
 }
 
-// At 64 bits.
-pub fn wide(x: u32) -> u64
-    ensures { λ r. ⌜ (r ≡ x) × (r < 0x1_0000_0000) ⌝ }
-{
-    x as u64
-}
-
-// 4 × the sum of all total lengths.
-fn billed(image: &[u8], table: TableHeader, offsets: &[usize; MOST_PARTITIONS]) -> u64
-    requires { ⌜ Chain (now image) table (now offsets) ⌝ }
-    ensures { λ r. ⌜ r ≡ billed (fileOf (now (image .entry)) table) ⌝ }
-{
-    let n = table.partitions as usize;
-    let mut words: u64 = 0;
-    let mut i: usize = 0;
-    while i < n {
-        let h = header_at(image, table, offsets, i);
-        words += wide(h.total);
-        i += 1;
-    }
-    4 * words
-}
-
 // Rules 10 to 19, of a table that has passed the others. Stores the headers' offsets and those of their hash entries.
 fn check_partitions(
     image: &[u8],
@@ -56,7 +31,8 @@ fn check_partitions(
 ) -> Answer
     requires own { ⌜ IsTable (now image) table ⌝ }
     requires few { ⌜ table .partitions ≤ mostPartitions ⌝ }
-    requires room { ⌜ (length (now offsets) ≡ mostPartitions) × (length (now entries) ≡ mostPartitions) ⌝ }
+    requires offsets { ⌜ length (now offsets) ≡ mostPartitions ⌝ }
+    requires entries { ⌜ length (now entries) ≡ mostPartitions ⌝ }
     ensures { λ r. ⌜ Partitions (now (image .entry)) table (now (offsets .exit)) (now (entries .exit)) r ⌝ }
 {
     let chain = chain_rules::check_chain(image, table, offsets);
@@ -96,7 +72,8 @@ pub fn check(
     offsets: &mut [usize; MOST_PARTITIONS],
     entries: &mut [usize; MOST_PARTITIONS],
 ) -> Reading
-    requires { ⌜ (length (now offsets) ≡ mostPartitions) × (length (now entries) ≡ mostPartitions) ⌝ }
+    requires offsets { ⌜ length (now offsets) ≡ mostPartitions ⌝ }
+    requires entries { ⌜ length (now entries) ≡ mostPartitions ⌝ }
     ensures { λ r. ⌜ Told (now (image .entry)) place (coreRules short plainRules) (now (offsets .exit)) (now (entries .exit)) r ⌝ }
 {
     if LONGEST < image.len() {
@@ -111,7 +88,7 @@ pub fn check(
     };
     let later = check_partitions(image, table, offsets, entries);
     let Answer::Refused(number, p) = later else {
-        return Reading::Accepted(table, billed(image, table, offsets));
+        return Reading::Accepted(table, rows::billed(image, table, offsets));
     };
     Reading::Refused(number, p)
 }

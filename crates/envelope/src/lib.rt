@@ -22,7 +22,8 @@ pub const HEAD: usize = 9;
 pub const LONGEST: usize = 65_527;
 
 fn wide(x: u8) -> usize
-    ensures { λ r. ⌜ (r ≡ x) × (r < 256) ⌝ }
+    ensures same { λ r. ⌜ r ≡ x ⌝ }
+    ensures small { λ r. ⌜ r < 256 ⌝ }
 {
     x as usize
 }

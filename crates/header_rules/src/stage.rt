@@ -1,7 +1,6 @@
 // Rules 11 to 16 along the chain. A rule is tried only if all lower ones hold for every partition: so each header tells its lowest broken
 // rule, and the lowest of these is answered, with the first partition that has it.
 ghost use Prim.Native.Nat.{_+_, _<_};
-ghost use mathlib.Core.List.{_∷_};
 ghost use mathlib.Core.Path.{_≡_};
 ghost use Rattle.pdi_spec.specs.RuleList.{headerRules};
 ghost use Rattle.pdi_spec.specs.Verdict.{verdict};

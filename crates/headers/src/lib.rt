@@ -1,6 +1,5 @@
 // The table, a partition header, the boot header, a hash block and its entries: sizes, offsets, by-value readings and the ranges that they
 // name. What is read lies inside the image: a rule has said so before.
-mod attributes;
 mod block;
 mod boot;
 mod entry;
@@ -8,7 +7,6 @@ mod field;
 mod partition;
 mod table;
 
-pub use attributes::Attributes;
 pub use block::Block;
 pub use boot::BootHeader;
 pub use entry::HashEntry;

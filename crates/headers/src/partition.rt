@@ -6,9 +6,9 @@ ghost use Rattle.pdi_spec.specs.Headers.{headerFrom, headerSize};
 ghost use Rattle.pdi_spec.specs.Ranges.{bodyOf, headerRange, loadRangeOf, spanOf};
 ghost use Rattle.headers.specs.Headers.{headerOf};
 ghost use Rattle.ranges.specs.Range.{rangeOf};
-use crate::attributes::Attributes;
 use crate::block::Block;
 use crate::field;
+use attributes::Attributes;
 use ranges::Range;
 
 // The number of two halves.
@@ -152,7 +152,7 @@ impl PartitionHeader {
         ensures { λ r. ⌜ rangeOf r ≡ loadRangeOf (headerOf self) .addresses ⌝ }
     {
         Range {
-            start: (self.load_low as u64) + 0x1_0000_0000 * (self.load_high as u64),
+            start: joined(self.load_low, self.load_high),
             size: 4 * (self.unencrypted as u64),
         }
     }

@@ -128,6 +128,7 @@ impl TableHeader {
             checksum: field::word(image, place, Self::CHECKSUM),
         }
     }
+
     // The table, and the optional data that follow it.
     pub fn with_optional(self) -> Range
         ensures { λ r. ⌜ rangeOf r ≡ tableWithOptional (tableOf self) ⌝ }

@@ -4,6 +4,7 @@
 ghost use Prim.Native.Nat.{_+_, _*_, _≤_};
 ghost use lib.ListN.{length};
 ghost use Rattle.pdi_spec.specs.Headers.{bootSize};
+use attributes::Attributes;
 use headers::BootHeader;
 use headers::HashEntry;
 use headers::PartitionHeader;
@@ -71,7 +72,7 @@ fn partition(h: PartitionHeader) -> u32 {
         (h.execution % 0x1_0000_0000) as u32,
         (h.execution / 0x1_0000_0000) as u32,
     );
-    let attributes = h.attributes;
+    let attributes: Attributes = h.attributes;
     let block = h.block;
     let block_words = added(block.size, block.offset);
     let keys = added(

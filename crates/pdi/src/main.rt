@@ -6,9 +6,9 @@ ghost use Rattle.pdi_spec.specs.Limits.{mostPartitions};
 use envelope::Opened;
 use libc::STDIN_FILENO;
 use libc::STDOUT_FILENO;
-use reader::BUFFER;
-use reader::HEAD;
-use reader::ROW;
+use rows::BUFFER;
+use rows::HEAD;
+use rows::ROW;
 
 // The rows that the row buffer has room for.
 const MOST: usize = (BUFFER - HEAD) / ROW;

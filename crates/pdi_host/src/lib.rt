@@ -8,16 +8,17 @@ ghost use lib.Seq.{sets};
 ghost use Rattle.pdi_spec.specs.Answers.{billAnswer, bodyAnswer, readAnswer};
 ghost use Rattle.pdi_spec.specs.Host.{hostAnswer, hostRows, leBytes};
 ghost use Rattle.pdi_spec.specs.Limits.{numberBytes};
-use reader::BUFFER;
-use reader::HEAD;
-use reader::ROW;
+use rows::BUFFER;
+use rows::HEAD;
+use rows::ROW;
 
 // Rule 2: the bytes of a row buffer that serves, 8 to a number.
 const BYTES: usize = 8 * BUFFER;
 
 // Stores the first n numbers.
 fn put_numbers(rows: &mut [u8], numbers: &[u64], n: usize)
-    requires { ⌜ (numberBytes * n ≤ length (now rows)) × (n ≤ length (now numbers)) ⌝ }
+    requires room { ⌜ numberBytes * n ≤ length (now rows) ⌝ }
+    requires enough { ⌜ n ≤ length (now numbers) ⌝ }
     ensures { λ _. ⌜ now (rows .exit) ≡ sets (now (rows .entry)) 0 (flatMap (leBytes numberBytes) (take n (now (numbers .entry)))) ⌝ }
 {
     let mut i: usize = 0;

@@ -9,9 +9,9 @@ use lib.Dec.{ltb}
 use lib.ListN.{length, take, drop}
 use Rattle.pdi_spec.specs.Answers.{asked, answer, billed, readBy, rowsBy, billBy, bodyBy, readAnswer, readRows, billAnswer, bodyAnswer, cut}
 use Rattle.pdi_spec.specs.File.{File, partitions, header}
-use Rattle.pdi_spec.specs.Headers.{Table, Header}
+use Rattle.pdi_spec.specs.Headers.{Header}
 use Rattle.pdi_spec.specs.Limits.{bufferNumbers, headWidth, rowWidth}
-use Rattle.pdi_spec.specs.Ranges.{body}
+use Rattle.pdi_spec.specs.Ranges.{Range, body, bodyOf}
 use Rattle.pdi_spec.specs.RuleList.{rule1, plainRules, withoutBuffer, withBuffer, withRows}
 use Rattle.pdi_spec.specs.Rules.{bufferTooShort}
 use Rattle.pdi_spec.specs.Verdict.{once, accepted, refused, verdict}
@@ -23,8 +23,9 @@ use Rattle.pdi_spec.specs.Laws.Rows.{after-accepted, after-refused}
 use Rattle.pdi_spec.specs.Laws.Verdict.{accepted-kept, verdict-after}
 use Rattle.headers.specs.declared.table.TableHeader.{TableHeader}
 use Rattle.chain_rules.specs.Chain.{fileOf}
+use Rattle.chain_rules.proofs.Counts.{counted}
 use Rattle.core.specs.Readings.{coreRules, outcomeOf, Held, Told}
-use Rattle.reader.specs.Rows.{overwritten}
+use Rattle.rows.specs.Rows.{overwritten}
 use Rattle.core.specs.declared.Reading.{Reading}
 use Rattle.core.proofs.Stages.{once-kept}
 
@@ -71,8 +72,7 @@ module _ (bytes : List ℕ) (place : ℕ) {offsets entries : List ℕ} {r : Read
     same-file = ap (asked bytes) (held .at-place)
 
     count-is : t .partitions ≡ partitions f
-    unfolding partitions
-    count-is = ap (λ (u : Table). u .partitions) (held .chain .own) ∙ ap partitions same-file
+    count-is = counted (held .chain) ∙ ap partitions same-file
 
     pub accepted-bill : bill ≡ billAnswer bytes place
     unfolding billBy
@@ -86,29 +86,32 @@ module _ (bytes : List ℕ) (place : ℕ) {offsets entries : List ℕ} {r : Read
         go (inl l) = inl l
         go (inr l) = inr (omega (arith, count-is))
 
-    -- a partition from 1 to N, and its header, as it was read
-    module _ (p : ℕ) (low : 1 ≤ p) (high : p ≤ t .partitions) {h : Header} (read : h ≡ header (fileOf bytes t) (p - 1 + 1)) where
-      is-header : h ≡ header f p
-      is-header =
-          read ∙ ap (λ (g : File). header g (p - 1 + 1)) same-file ∙ ap (header f) {x = p - 1 + 1} {y = p} (omega arith)
+    -- a partition from 1 to N, its header, as it was read, and the range of its body
+    module _ (p : ℕ) (low : 1 ≤ p) (high : p ≤ t .partitions) {h : Header} (read : h ≡ header (fileOf bytes t) (p - 1 + 1))
+        {b : Range} (named : b ≡ bodyOf h) where
+      is-body : b ≡ body f p
+      unfolding body
+      is-body =
+          named
+          ∙ ap bodyOf
+          (read ∙ ap (λ (g : File). header g (p - 1 + 1)) same-file ∙ ap (header f) {x = p - 1 + 1} {y = p} (omega arith))
 
-      pub ends : 4 * h .dataOffset + 4 * h .encrypted ≤ length bytes
-      unfolding withoutBuffer
+      pub ends : b .start + b .size ≤ length bytes
+      unfolding withoutBuffer body
       ends =
           let high′ : p ≤ partitions f = omega (arith, count-is) in
           let span = span-stated f p low high′ (accepted-kept (withoutBuffer plainRules) f (accepted-is e)
           (mem-cons-of-mem rule1 (plain .spans))) in
           let order = lengths-stated f p low high′ (accepted-kept (withoutBuffer plainRules) f (accepted-is e)
           (mem-cons-of-mem rule1 (plain .lengths))) .2 in
-          omega (arith, span, order, ap (λ (g : Header). g .dataOffset) is-header, ap (λ (g : Header). g .encrypted) is-header)
+          omega (arith, span, order, ap (λ (r : Range). r .start) is-body, ap (λ (r : Range). r .size) is-body)
 
-      pub part-is : take (4 * h .dataOffset + 4 * h .encrypted - 4 * h .dataOffset) (drop (4 * h .dataOffset) bytes)
-          ≡ bodyAnswer bytes place p
-      unfolding bodyBy cut body
+      pub part-is : take (b .start + b .size - b .start) (drop (b .start) bytes) ≡ bodyAnswer bytes place p
+      unfolding bodyBy cut
       part-is =
-          let size : 4 * h .dataOffset + 4 * h .encrypted - 4 * h .dataOffset ≡ 4 * h .encrypted = omega arith in
-          ap (λ (n : ℕ). take n (drop (4 * h .dataOffset) bytes)) size
-          ∙ ap (λ (g : Header). take (4 * g .encrypted) (drop (4 * g .dataOffset) bytes)) is-header
+          let size : b .start + b .size - b .start ≡ b .size = omega arith in
+          ap (λ (n : ℕ). take n (drop (b .start) bytes)) size
+          ∙ ap (λ (r : Range). cut r bytes) is-body
           ∙ sym (body-accepted (withoutBuffer plainRules) f (accepted-is e) p low (omega (arith, count-is)))
 
 -- ---- the same of read, with a row buffer

@@ -5,6 +5,7 @@ use chain_rules::header_at;
 use core::Reading;
 use core::check;
 use headers::MOST_PARTITIONS;
+use ranges::Range;
 
 // Empty for a refused image, and for a p that isn't 1 to N.
 pub fn body<'a>(image: &'a [u8], place: usize, p: usize) -> &'a [u8]
@@ -25,7 +26,7 @@ pub fn body<'a>(image: &'a [u8], place: usize, p: usize) -> &'a [u8]
         return &image[last..];
     }
     let h = header_at(image, table, &offsets, p - 1);
-    let start = 4 * (h.data_offset as usize);
-    let end = start + 4 * (h.encrypted as usize);
-    &image[start..end]
+    let part: Range = h.body();
+    let start = part.start as usize;
+    &image[start..start + (part.size as usize)]
 }

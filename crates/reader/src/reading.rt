@@ -3,11 +3,11 @@ ghost use Prim.Native.Nat.{_<_};
 ghost use mathlib.Core.Path.{_≡_};
 ghost use Rattle.pdi_spec.specs.Answers.{answer, readAnswer, readRows};
 ghost use Rattle.core.specs.Readings.{outcomeOf};
-use crate::rows::BUFFER;
-use crate::rows::write;
 use core::Reading;
 use core::check;
 use headers::MOST_PARTITIONS;
+use rows::BUFFER;
+use rows::write;
 
 // 64 × number + p of a refusal, 0 of an acceptance.
 fn answer_of(reading: Reading) -> u64

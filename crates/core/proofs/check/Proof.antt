@@ -7,7 +7,7 @@ use Rattle.pdi_spec.specs.Answers.{asked}
 use Rattle.pdi_spec.specs.File.{File}
 use Rattle.pdi_spec.specs.Verdict.{refused, verdict}
 use Rattle.core.specs.Readings.{coreRules, numberIn}
-use Rattle.headers.proofs.Calls.{nothing}
+use Rattle.pdi_spec.specs.Laws.Calls.{nothing}
 use Rattle.core.proofs.Outcomes.{refused-told, accepted-told, too-long, too-short, passes, table-refused, TableKept, table-checked, all-kept, one-refused}
 use Rattle.core.proofs.check.Statement.{statement}
 use Rattle.core.proofs.check.Tie as tie

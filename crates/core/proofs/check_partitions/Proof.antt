@@ -1,14 +1,18 @@
 -- `core::check_partitions` meets its contract: past each stage that is kept, the answer is that of the stages left. Assumes
 -- nothing.
 use borrow.Author.Needs.{needs}
-use mathlib.Core.List.{[], _∷_, _++_}
+use Prim.Native.Nat.{ℕ}
+use mathlib.Core.List.{List, [], _∷_, _++_}
 use mathlib.Core.Path.{_≡_, sym, _∙_, ap}
 use Rattle.pdi_spec.specs.File.{File}
 use Rattle.pdi_spec.specs.RuleList.{rule10, rule17, rule18, rule19, headerRules, partitionRules, clashRules}
 use Rattle.pdi_spec.specs.Verdict.{Outcome, verdict}
 use Rattle.pdi_spec.specs.Laws.Verdict.{andThen}
+use Rattle.headers.specs.declared.table.TableHeader.{TableHeader}
 use Rattle.chain_rules.specs.Answers.{answerOf}
 use Rattle.chain_rules.specs.Chain.{fileOf}
+use Rattle.chain_rules.specs.declared.Answer.{Answer}
+use Rattle.core.specs.Readings.{Partitions}
 use Rattle.core.proofs.Stages.{stops, goes-on, never, partitions-split}
 use Rattle.core.proofs.check_partitions.Statement.{statement}
 use Rattle.core.proofs.check_partitions.Tie as tie
@@ -63,14 +67,15 @@ left-18 c =
 left-19 : (c : tie.After-enum-told7) → Left (entry-18 c) (from-19 (file-of (entry-18 c)))
 left-19 c = goes-on _ _ (c .before .before .check-stored .ensures) (c .enum-told7 .given .1) ∙ left-18 (c .before .before .before .before)
 
+-- a refusal hands nothing on
+refusal : {bytes : List ℕ} {t : TableHeader} {offsets entries : List ℕ} {r : Answer} {k p : ℕ} → r ≡ Answer.Refused k p
+    → r ≡ answerOf (verdict (partitionRules ++ clashRules) (fileOf bytes t)) → Partitions bytes t offsets entries r
+refusal e told = record { told = told; chain = λ q. absurd (never e q); entries-are = λ q. absurd (never e q) }
+
 returns : tie.Need-returns
 returns c =
     let e = c .enum-told2 .given .1 in
-    record {
-      told = stops _ _ (c .before .before .check-chain .ensures .told) e ∙ whole (c .before .before .before .before .before);
-      chain = λ q. absurd (never e q);
-      entries-are = λ q. absurd (never e q);
-    }
+    refusal e (stops _ _ (c .before .before .check-chain .ensures .told) e ∙ whole (c .before .before .before .before .before))
 
 check-headers-requires : tie.Need-check-headers-requires
 check-headers-requires c κs = c .before .before .before .check-chain .ensures .chain (c .before .enum-told .given .1)
@@ -78,11 +83,7 @@ check-headers-requires c κs = c .before .before .before .check-chain .ensures .
 returns-2 : tie.Need-returns-2
 returns-2 c =
     let e = c .enum-told4 .given .1 in
-    record {
-      told = stops _ _ (c .before .before .check-headers .ensures) e ∙ left-11 (c .before .before .before .before);
-      chain = λ q. absurd (never e q);
-      entries-are = λ q. absurd (never e q);
-    }
+    refusal e (stops _ _ (c .before .before .check-headers .ensures) e ∙ left-11 (c .before .before .before .before))
 
 check-blocks-requires : tie.Need-check-blocks-requires
 check-blocks-requires c κs =
@@ -92,11 +93,7 @@ check-blocks-requires c κs =
 returns-3 : tie.Need-returns-3
 returns-3 c =
     let e = c .enum-told6 .given .1 in
-    record {
-      told = stops _ _ (c .before .before .check-blocks .ensures .told) e ∙ left-17 (c .before .before .before .before .before);
-      chain = λ q. absurd (never e q);
-      entries-are = λ q. absurd (never e q);
-    }
+    refusal e (stops _ _ (c .before .before .check-blocks .ensures .told) e ∙ left-17 (c .before .before .before .before .before))
 
 -- the chain, as it was left after rule 10
 check-stored-requires : tie.Need-check-stored-requires
@@ -107,11 +104,7 @@ check-stored-requires c κs =
 returns-4 : tie.Need-returns-4
 returns-4 c =
     let e = c .enum-told8 .given .1 in
-    record {
-      told = stops _ _ (c .before .before .check-stored .ensures) e ∙ left-18 (c .before .before .before .before);
-      chain = λ q. absurd (never e q);
-      entries-are = λ q. absurd (never e q);
-    }
+    refusal e (stops _ _ (c .before .before .check-stored .ensures) e ∙ left-18 (c .before .before .before .before))
 
 check-loads-requires : tie.Need-check-loads-requires
 check-loads-requires c κs =

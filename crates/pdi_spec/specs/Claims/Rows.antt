@@ -5,7 +5,7 @@ use mathlib.Core.List.{List, [], _∷_, _++_, flatMap, List·Mem}
 use mathlib.Core.Logic.{_⊎_}
 use mathlib.Core.Path.{_≡_}
 use lib.ListN.{length, take, drop}
-use Rattle.pdi_spec.specs.{Limits.headWidth, Limits.rowWidth, Limits.numberBytes, Words.wordAt, File.File, File.table, File.partitions, File.header, File.hashBlock, HashBlock.noBlock, HashBlock.sizeOfEntries, HashBlock.entriesIn, Ranges.span, Ranges.spanOf, Ranges.loadAddressOf, Ranges.loadRange, Ranges.loadRangeOf, Verdict.Rule, Verdict.accepted, Verdict.verdict, Verdict.Kept, RuleList.rule17, RuleList.rule14, RuleList.rule15, RuleList.plainRules, RuleList.withoutBuffer, Answers.rowNumbers, Answers.hashEntry, Answers.rowOf, Answers.billed, Answers.headAndRows, Answers.rowsAfter, Answers.asked, Answers.readRows, Answers.billUnder, Answers.cut, Answers.bodyUnder, Answers.readAnswer, Answers.billAnswer, Answers.bodyAnswer, Host.leBytes, Host.hostAnswer, Host.hostRows}
+use Rattle.pdi_spec.specs.{Limits.headWidth, Limits.rowWidth, Limits.numberBytes, Words.wordAt, File.File, File.table, File.partitions, File.header, File.hashBlock, HashBlock.noBlock, HashBlock.sizeOfEntries, HashBlock.entriesIn, Ranges.span, Ranges.loadAddressOf, Ranges.loadRange, Verdict.Rule, Verdict.accepted, Verdict.verdict, Verdict.Kept, RuleList.rule17, RuleList.rule14, RuleList.rule15, RuleList.plainRules, RuleList.withoutBuffer, Answers.rowNumbers, Answers.hashEntry, Answers.rowOf, Answers.billed, Answers.headAndRows, Answers.rowsAfter, Answers.asked, Answers.readRows, Answers.billUnder, Answers.cut, Answers.bodyUnder, Answers.readAnswer, Answers.billAnswer, Answers.bodyAnswer, Host.leBytes, Host.hostAnswer, Host.hostRows}
 use Rattle.pdi_spec.specs.Laws.{Plain.plain}
 use Rattle.pdi_spec.specs.Laws
 

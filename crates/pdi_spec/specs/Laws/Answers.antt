@@ -10,7 +10,7 @@ use lib.ListN.{length, take, drop, length-take, length-drop}
 use lib.Dec.{ltb}
 use lib.Seq.{take-take}
 use borrow.Author.Tests.{lt-ltb, le-ltb}
-use Rattle.pdi_spec.specs.{Limits.headWidth, Limits.rowWidth, Limits.bufferNumbers, Limits.numberBytes, Limits.bufferBytes, File.File, File.partitions, File.header, Ranges.span, Ranges.bodyOf, Ranges.spanOf, Ranges.body, Verdict.Rule, Verdict.Outcome, Verdict.accepted, Verdict.refused, Verdict.verdict, RuleList.rule1, RuleList.withoutBuffer, RuleList.withRows, RuleList.withHostRows, RuleList.rule14, RuleList.rule15, Answers.answer, Answers.ifAccepted, Answers.head, Answers.headAndRows, Answers.written, Answers.rowsAfter, Answers.cut, Answers.asked, Answers.readBy, Answers.rowsBy, Answers.billBy, Answers.bodyBy, Answers.billed, Answers.billUnder, Answers.bodyUnder, Host.leBytes, Host.writtenBytes, Host.bytesAfter, Host.hostReadBy, Host.hostRowsBy, Stated.byRows, Stated.inSpans, Loading.Memory, Loading.Feed, Loading.Whole, Loading.Loaded, Supported.Supported, Rules.notFrom}
+use Rattle.pdi_spec.specs.{Limits.headWidth, Limits.rowWidth, Limits.bufferNumbers, Limits.numberBytes, Limits.bufferBytes, File.File, File.partitions, File.header, Ranges.span, Ranges.body, Verdict.Rule, Verdict.Outcome, Verdict.accepted, Verdict.refused, Verdict.verdict, RuleList.rule1, RuleList.withoutBuffer, RuleList.withRows, RuleList.withHostRows, RuleList.rule14, RuleList.rule15, Answers.answer, Answers.ifAccepted, Answers.head, Answers.headAndRows, Answers.written, Answers.rowsAfter, Answers.cut, Answers.asked, Answers.readBy, Answers.rowsBy, Answers.billBy, Answers.bodyBy, Answers.billed, Answers.billUnder, Answers.bodyUnder, Host.leBytes, Host.writtenBytes, Host.bytesAfter, Host.hostReadBy, Host.hostRowsBy, Stated.byRows, Stated.inSpans, Loading.Memory, Loading.Feed, Loading.Whole, Loading.Loaded, Supported.Supported, Rules.notFrom}
 use Rattle.pdi_spec.specs.Laws.{Lists.flatMap-length, Refusals.answer-refused, Refusals.with-room, Refusals.few-partitions, Refusals.zero-accepted, Refusals.zero-accepts, Refusals.buffer-accepts, Rows.written-length, Rows.after-accepted, Rows.after-refused, Rows.length-after, Rows.rows-state, Stated.accepted-loads, Stated.accepted-bill, Tests.or-inl, Tests.or-inr, Verdict.accepted-kept, Kept.lengths-stated, Kept.span-stated}
 
 -- ---- bill

@@ -2,7 +2,7 @@
 use mathlib.Core.List.{map, flatMap}
 use mathlib.Core.Option.{Option·elim}
 use mathlib.Core.Path.{_≡_, refl}
-use Rattle.pdi_spec.specs.{Lists.numbers, Lists.sumOf, Lists.anyTrue, Lists.anyOf, Lists.anyPair, Lists.firstOf, Lists.isIn, Words.byteAt, Words.wordAt, Words.run, Words.checksum, Words.spells, Keys.commonKeys, Keys.zeroOrCommon, Keys.zeroCommonOrUser, Headers.headerSize, Headers.blockFrom, Headers.FPDI, Headers.PPDI, Headers.kindFrom, Headers.tableFrom, Headers.headerFrom, Headers.bootSize, Attributes.hasLoadAddress, File.table, File.isFull, File.partitions, File.partitionNumbers, File.headerAt, File.header, File.hashBlock, HashBlock.noBlock, HashBlock.entrySize, HashBlock.entriesIn, HashBlock.entryNumbers, HashBlock.hashEntryIn, Ranges.endOf, Ranges.overlap, Ranges.past, Ranges.tableRange, Ranges.tableWithOptional, Ranges.imageHeaders, Ranges.headerRange, Ranges.spanOf, Ranges.span, Ranges.spans, Ranges.headerRanges, Ranges.blockRanges, Ranges.hashBlocks, Ranges.loadAddressOf, Ranges.loadRangeOf, Ranges.loads, Ranges.loadRange, Ranges.addressSpace, Verdict.once, Verdict.each, Verdict.eachAndTable, Verdict.verdict, Rules.notFrom, Rules.imageTooLong, Rules.bufferTooShort, Rules.tableOutside, Rules.tableChecksumWrong, Rules.kindUnknown, Rules.tableFieldsBad, Rules.tableKeyUnknown, Rules.bootHeaderWrong, Rules.imageHeadersOutside, Rules.chainBroken, Rules.headerChecksumBad, Rules.attributeWordBad, Rules.attributesBad, Rules.keyUnknown, Rules.lengthsBad, Rules.spanOutside, Rules.loadAddressBad, Rules.hashBlockWrong, Rules.storedRangesClash, Rules.loadRangesClash, RuleList.tableRules, RuleList.headerRules, RuleList.partitionRules, RuleList.readingRules, RuleList.clashRules, RuleList.plainRules, RuleList.withoutBuffer, RuleList.withBuffer, RuleList.withRows, Answers.answer, Answers.ifAccepted, Answers.rowNumbers, Answers.hashEntry, Answers.rowOf, Answers.billed, Answers.head, Answers.headAndRows, Answers.written, Answers.billUnder, Host.leBytes, Bench.Case, Bench.put, Bench.inHeader, Bench.benchImage, Bench.righted, Bench.edited, Bench.seen, Bench.starred}
+use Rattle.pdi_spec.specs.{Lists.numbers, Lists.sumOf, Lists.anyTrue, Lists.anyOf, Lists.anyPair, Lists.firstOf, Lists.isIn, Words.byteAt, Words.wordAt, Words.run, Words.checksum, Words.spells, Keys.commonKeys, Keys.zeroOrCommon, Keys.zeroCommonOrUser, Headers.blockFrom, Headers.FPDI, Headers.PPDI, Headers.kindFrom, Headers.tableFrom, Headers.headerFrom, Attributes.hasLoadAddress, File.table, File.isFull, File.partitions, File.partitionNumbers, File.headerAt, File.header, File.hashBlock, HashBlock.entriesIn, HashBlock.entryNumbers, HashBlock.hashEntryIn, Ranges.endOf, Ranges.overlap, Ranges.past, Ranges.span, Ranges.spans, Ranges.headerRanges, Ranges.blockRanges, Ranges.hashBlocks, Ranges.loads, Ranges.loadRange, Ranges.addressSpace, Verdict.once, Verdict.each, Verdict.eachAndTable, Verdict.verdict, Rules.notFrom, Rules.imageTooLong, Rules.bufferTooShort, Rules.tableOutside, Rules.tableChecksumWrong, Rules.kindUnknown, Rules.tableFieldsBad, Rules.tableKeyUnknown, Rules.bootHeaderWrong, Rules.imageHeadersOutside, Rules.chainBroken, Rules.headerChecksumBad, Rules.attributeWordBad, Rules.attributesBad, Rules.keyUnknown, Rules.lengthsBad, Rules.spanOutside, Rules.loadAddressBad, Rules.hashBlockWrong, Rules.storedRangesClash, Rules.loadRangesClash, RuleList.tableRules, RuleList.headerRules, RuleList.partitionRules, RuleList.readingRules, RuleList.clashRules, RuleList.plainRules, RuleList.withoutBuffer, RuleList.withBuffer, RuleList.withRows, Answers.answer, Answers.ifAccepted, Answers.rowNumbers, Answers.hashEntry, Answers.rowOf, Answers.billed, Answers.head, Answers.headAndRows, Answers.written, Answers.billUnder, Host.leBytes, Bench.Case, Bench.put, Bench.inHeader, Bench.benchImage, Bench.righted, Bench.edited, Bench.seen, Bench.starred}
 
 pub starred-cases : map seen starred ≡ map (λ (c : Case). c .says) starred
 unfolding numbers sumOf anyTrue anyOf anyPair firstOf isIn byteAt wordAt run checksum spells commonKeys zeroOrCommon zeroCommonOrUser

@@ -3,8 +3,8 @@
 use Prim.Native.Nat.{ℕ}
 use mathlib.Core.Bool.{Bool, true, false, cond}
 use mathlib.Core.List.{List, [], _∷_}
-use mathlib.Core.Option.{Option, none, some, Option·elim}
-use mathlib.Core.Path.{_≡_, refl, sym, _∙_, ap}
+use mathlib.Core.Option.{Option, some, Option·elim}
+use mathlib.Core.Path.{_≡_, refl, _∙_, ap}
 use Rattle.pdi_spec.specs.File.{File}
 use Rattle.pdi_spec.specs.Lists.{firstOf}
 use Rattle.pdi_spec.specs.Verdict.{Rule, Outcome, accepted, refused, verdict, firstBroken}

@@ -10,7 +10,7 @@ use mathlib.Core.Option.{some, Option·elim}
 use mathlib.Core.Path.{_≡_, refl}
 use lib.Dec.{eqb}
 use borrow.Author.Tests.{not-false, eqb-true, eq-eqb}
-use Rattle.pdi_spec.specs.{Lists.numbers, Lists.anyOf, Lists.countOf, Lists.firstOf, Headers.Block, File.File, File.hashBlock, Words.wordAt, HashBlock.noBlock, HashBlock.entrySize, HashBlock.sizeOfEntries, HashBlock.entriesIn, HashBlock.entryAt, HashBlock.hasIndex, HashBlock.entryNumbers, HashBlock.ownEntries, HashBlock.hashEntryIn, Rules.hashBlockBad, Rules.hashBlockWrong}
+use Rattle.pdi_spec.specs.{Lists.numbers, Lists.anyOf, Lists.countOf, Lists.firstOf, Headers.Block, File.File, File.hashBlock, Words.wordAt, HashBlock.noBlock, HashBlock.sizeOfEntries, HashBlock.entriesIn, HashBlock.entryAt, HashBlock.hasIndex, HashBlock.entryNumbers, HashBlock.ownEntries, HashBlock.hashEntryIn, Rules.hashBlockBad, Rules.hashBlockWrong}
 use Rattle.pdi_spec.specs.Laws.{Tests.either, Tests.or-both, Tests.never-both, Tests.false-at, Tests.mem-numbers, Tests.numbers-mem, Tests.none-entry}
 
 -- a length stands for at most one number of entries

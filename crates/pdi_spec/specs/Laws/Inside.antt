@@ -10,7 +10,7 @@ use mathlib.Core.Option.{some}
 use lib.Dec.{eqb}
 use lib.ListN.{length}
 use borrow.Author.Tests.{ltb-false}
-use Rattle.pdi_spec.specs.{Lists.numbers, Lists.firstOf, Headers.bootSize, Headers.headerSize, Headers.tableFrom, Headers.bootFrom, File.File, File.table, File.partitions, File.partitionNumbers, File.header, File.isFull, File.hashBlock, HashBlock.noBlock, Ranges.blockRanges, Ranges.Range, Ranges.endOf, Ranges.past, Ranges.bootRange, Ranges.tableRange, Ranges.tableWithOptional, Ranges.imageHeaders, Ranges.headerRange, Ranges.span, Ranges.blockRange, Ranges.spans, Ranges.headerRanges, Ranges.hashBlocks, Verdict.Keeps, Verdict.Rule, Verdict.once, Verdict.each, Verdict.eachAndTable, Verdict.Kept, Rules.tableOutside, Rules.bootHeaderWrong, Rules.bootHeaderBad, Rules.imageHeadersOutside, Rules.chainBroken, Rules.spanOutside, Rules.hashBlockBad, Rules.hashBlockWrong, RuleList.readingRules, RuleList.tableRules, RuleList.headerRules, RuleList.partitionRules, RuleList.withTable, RuleList.withHeader}
+use Rattle.pdi_spec.specs.{Lists.numbers, Lists.firstOf, Headers.bootSize, Headers.tableFrom, Headers.bootFrom, File.File, File.table, File.partitions, File.partitionNumbers, File.header, File.isFull, File.hashBlock, HashBlock.noBlock, Ranges.blockRanges, Ranges.Range, Ranges.endOf, Ranges.past, Ranges.bootRange, Ranges.tableRange, Ranges.tableWithOptional, Ranges.imageHeaders, Ranges.headerRange, Ranges.span, Ranges.blockRange, Ranges.spans, Ranges.headerRanges, Ranges.hashBlocks, Verdict.Keeps, Verdict.Rule, Verdict.once, Verdict.each, Verdict.eachAndTable, Verdict.Kept, Rules.tableOutside, Rules.bootHeaderWrong, Rules.bootHeaderBad, Rules.imageHeadersOutside, Rules.chainBroken, Rules.spanOutside, Rules.hashBlockBad, Rules.hashBlockWrong, RuleList.readingRules, RuleList.tableRules, RuleList.headerRules, RuleList.partitionRules, RuleList.withTable, RuleList.withHeader}
 use Rattle.pdi_spec.specs.Laws.{Lists.mem-flatMap, HashBlock.not-bad, Tests.or-left, Tests.or-right, Tests.false-at, Kept.kept-once, Kept.kept-each, Kept.kept-with-table, Kept.by-number, Kept.Inside, Kept.not-past, Kept.span-inside}
 
 -- a rule of that number, of rules 3 to 17

@@ -10,7 +10,7 @@ use mathlib.Core.Logic.{_⊎_, inl, inr, ⊎-elim}
 use lib.Dec.{eqb, ltb}
 use lib.ListN.{length}
 use borrow.Author.Tests.{ltb-false}
-use Rattle.pdi_spec.specs.{Lists.numbers, Lists.firstOf, File.File, File.table, File.partitions, File.partitionNumbers, File.header, File.hashBlock, Verdict.Rule, Verdict.once, Verdict.each, Verdict.eachAndTable, Verdict.Kept, Rules.spanOutside, Rules.loadAddressBad, Rules.hashBlockWrong, Rules.notFrom, Rules.tableFieldsBad, Rules.lengthsBad, RuleList.ofHeader, RuleList.withHeader, RuleList.ofTable, RuleList.rule6, RuleList.rule14, RuleList.rule15, RuleList.rule16, RuleList.rule17, Limits.mostImages, Limits.mostPartitions, Words.wordAt, HashBlock.noBlock, HashBlock.entrySize, HashBlock.entryAt, HashBlock.entriesIn, Ranges.endOf, Ranges.past, Ranges.span, Ranges.spanOf, Ranges.loadAddressOf, Ranges.loadRange, Ranges.loadRangeOf, Ranges.loads, Ranges.addressSpace, Ranges.Range, Answers.hashEntry}
+use Rattle.pdi_spec.specs.{Lists.numbers, Lists.firstOf, File.File, File.table, File.partitions, File.partitionNumbers, File.header, File.hashBlock, Verdict.Rule, Verdict.once, Verdict.each, Verdict.eachAndTable, Verdict.Kept, Rules.spanOutside, Rules.loadAddressBad, Rules.hashBlockWrong, Rules.notFrom, Rules.tableFieldsBad, Rules.lengthsBad, RuleList.ofHeader, RuleList.withHeader, RuleList.ofTable, RuleList.rule6, RuleList.rule14, RuleList.rule15, RuleList.rule16, RuleList.rule17, Limits.mostImages, Limits.mostPartitions, Words.wordAt, HashBlock.noBlock, HashBlock.entryAt, HashBlock.entriesIn, Ranges.endOf, Ranges.past, Ranges.span, Ranges.loadAddressOf, Ranges.loadRange, Ranges.loads, Ranges.addressSpace, Ranges.Range, Answers.hashEntry}
 use Rattle.pdi_spec.specs.Laws.{Firsts.first-mem, Firsts.first-some, Tests.numbers-mem, Tests.either, Tests.or-left, Tests.or-right, Tests.false-at, HashBlock.own-entry, HashBlock.no-entry, HashBlock.not-bad}
 
 -- ---- by the kinds of rules

@@ -7,7 +7,7 @@ use mathlib.Core.List.{List, [], _∷_, _++_, map, List·Mem, not-mem-nil, eq-or
 use mathlib.Core.Logic.{∥∥₁-elim, Or·elim}
 use mathlib.Core.Path.{_≡_, refl, sym, _∙_, ap, fun-ext}
 use lib.ListN.{length}
-use Rattle.pdi_spec.specs.{Lists.numbers, Lists.sumOf, Lists.anyOf, Lists.anyPair, Lists.those, Lists.countOf, File.File, File.partitions, File.partitionNumbers, File.header, RuleList.ofHeader, RuleList.withHeader, RuleList.rule15, RuleList.rule16, RuleList.rule18, RuleList.rule19, Ranges.Range, Ranges.within, Ranges.overlap, Ranges.past, Ranges.span, Ranges.spanOf, Ranges.spans, Ranges.headerRanges, Ranges.meet, Ranges.loads, Ranges.loadRange, Ranges.addressSpace, Rules.spanOutside, Rules.loadAddressBad, Rules.storedRangesClash, Rules.loadRangesClash, Verdict.Rule, Verdict.accepted, Verdict.verdict, Verdict.Kept, Answers.ifAccepted, Answers.billed, Answers.billUnder, Stated.Stated, Stated.byHeaders, Stated.partitionsOf, Stated.loadable, Stated.inSpans, Loading.Memory, Loading.Feed, Loading.Whole, Loading.Loaded}
+use Rattle.pdi_spec.specs.{Lists.numbers, Lists.sumOf, Lists.anyOf, Lists.anyPair, Lists.those, Lists.countOf, File.File, File.partitions, File.partitionNumbers, File.header, RuleList.ofHeader, RuleList.withHeader, RuleList.rule15, RuleList.rule16, RuleList.rule18, RuleList.rule19, Ranges.Range, Ranges.within, Ranges.overlap, Ranges.past, Ranges.span, Ranges.spans, Ranges.headerRanges, Ranges.meet, Ranges.loads, Ranges.loadRange, Ranges.addressSpace, Rules.spanOutside, Rules.loadAddressBad, Rules.storedRangesClash, Rules.loadRangesClash, Verdict.Rule, Verdict.accepted, Verdict.verdict, Verdict.Kept, Answers.ifAccepted, Answers.billed, Answers.billUnder, Stated.Stated, Stated.byHeaders, Stated.partitionsOf, Stated.loadable, Stated.inSpans, Loading.Memory, Loading.Feed, Loading.Whole, Loading.Loaded}
 use Rattle.pdi_spec.specs.Laws.{Tests.or-left, Tests.or-right, Tests.false-at, Tests.mem-numbers, Tests.numbers-mem, Tests.none-entry, Kept.kept-once, Kept.kept-each, Kept.partition-mem, Kept.load-in-space, Verdict.accepted-kept, Lists.those-sublist, Loading.loads-whole, Counts.count-at-most, Counts.counted}
 
 -- ---- lists

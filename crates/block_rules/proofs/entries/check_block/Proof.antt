@@ -10,7 +10,7 @@ use Rattle.pdi_spec.specs.HashBlock.{noBlock, entriesIn, ownEntries}
 use Rattle.pdi_spec.specs.Ranges.{past, blockRange}
 use Rattle.pdi_spec.specs.Rules.{hashBlockBad}
 use Rattle.headers.specs.Headers.{blockOf}
-use Rattle.headers.proofs.Calls.{nothing}
+use Rattle.pdi_spec.specs.Laws.Calls.{nothing}
 use Rattle.block_rules.proofs.Block.{ill-sized, bad-by, inside, absent, refused, checked, none-own, own-at, two-own, one-own}
 use Rattle.block_rules.proofs.entries.check_block.Statement.{statement}
 use Rattle.block_rules.proofs.entries.check_block.Tie as tie

@@ -2,7 +2,7 @@
 use borrow.Author.Needs.{needs}
 use Rattle.pdi_spec.specs.HashBlock.{hasIndex}
 use Rattle.headers.specs.Headers.{entryFrom}
-use Rattle.headers.proofs.Calls.{nothing}
+use Rattle.pdi_spec.specs.Laws.Calls.{nothing}
 use Rattle.block_rules.proofs.entries.has_index.Statement.{statement}
 use Rattle.block_rules.proofs.entries.has_index.Tie as tie
 

@@ -5,7 +5,7 @@ use mathlib.Core.Bool.{false}
 use mathlib.Core.Path.{_≡_, sym, _∙_}
 use Rattle.pdi_spec.specs.HashBlock.{entriesIn, entryAt, hasIndex}
 use Rattle.headers.specs.Headers.{blockOf}
-use Rattle.headers.proofs.Calls.{nothing}
+use Rattle.pdi_spec.specs.Laws.Calls.{nothing}
 use Rattle.block_rules.proofs.Counts.{skipped-more}
 use Rattle.block_rules.proofs.entries.next_entry.Statement.{statement}
 use Rattle.block_rules.proofs.entries.next_entry.Tie as tie

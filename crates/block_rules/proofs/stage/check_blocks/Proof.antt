@@ -3,11 +3,12 @@ use Prim.Native.Nat.{ℕ, _-_, _≤_}
 use borrow.Author.Needs.{needs}
 use native.Mathlib.Omega.{arith}
 use mathlib.Core.Path.{_≡_, sym, _∙_, ap}
-use Rattle.pdi_spec.specs.File.{partitions, hashBlock}
+use Rattle.pdi_spec.specs.File.{hashBlock}
 use Rattle.pdi_spec.specs.Headers.{Table}
 use Rattle.headers.specs.Headers.{blockOf}
-use Rattle.headers.proofs.Calls.{nothing}
+use Rattle.pdi_spec.specs.Laws.Calls.{nothing}
 use Rattle.chain_rules.specs.Chain.{fileOf}
+use Rattle.chain_rules.proofs.Counts.{counted}
 use Rattle.block_rules.proofs.Blocks.{Along, own-block, block-refused, block-checked, table-broken, starts, kept, broken, onward}
 use Rattle.block_rules.proofs.stage.check_blocks.Statement.{statement}
 use Rattle.block_rules.proofs.stage.check_blocks.Tie as tie
@@ -17,11 +18,6 @@ Inv-loop image table offsets entries₀ n i₀ entries i = (i ≤ n) × Along (f
 
 abbrev μ-loop : tie.MeasureT-loop
 μ-loop image table offsets entries₀ n i₀ entries i = n - i
-
--- what the table says of its file
-count-is : (s : tie.Start Inv-loop μ-loop) → s .args .table .partitions ≡ partitions (fileOf (s .args .image .now) (s .args .table))
-unfolding partitions
-count-is s = ap (λ (t : Table). t .partitions) (s .pre .0 .own)
 
 table-block : (s : tie.Start Inv-loop μ-loop)
     → blockOf (s .args .table .block) ≡ hashBlock (fileOf (s .args .image .now) (s .args .table)) 0
@@ -54,7 +50,7 @@ returns-2 c =
     let s = a .before .before .before .before .before .before in
     record {
       told =
-          broken _ (a .loop .inv .1) (omega (arith, count-is s))
+          broken _ (a .loop .inv .1) (omega (arith, counted (s .pre .0)))
           (block-refused _ _ (own-block _ _ (d .header-at .ensures))
           (sym (c .before .before .check-block2 .ensures) ∙ c .enum-told3 .given .1));
       entries-are = λ e. let z : _≡_ {A = ℕ} 0 1 = cc in absurd (omega arith);
@@ -75,7 +71,7 @@ returns-3 : tie.Need-returns-3 Inv-loop μ-loop
 returns-3 c =
     let s = c .before .before .before .before .before .before .before in
     let a = c .before .loop .inv .1 in
-    record { told = kept _ a (omega (arith, count-is s)); entries-are = λ e i h. a .stored i (omega arith) }
+    record { told = kept _ a (omega (arith, counted (s .pre .0))); entries-are = λ e i h. a .stored i (omega arith) }
 
 pub check-blocks-spec : {M : Type 1} → statement M
 check-blocks-spec =

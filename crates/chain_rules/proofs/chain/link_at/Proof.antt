@@ -5,7 +5,7 @@ use mathlib.Core.Path.{_≡_, sym, _∙_, ap}
 use Rattle.pdi_spec.specs.File.{File, partitions, header}
 use Rattle.pdi_spec.specs.Headers.{Table, Header, headerFrom}
 use Rattle.chain_rules.specs.Chain.{fileOf, linkOf, linkAt}
-use Rattle.headers.proofs.Calls.{nothing}
+use Rattle.pdi_spec.specs.Laws.Calls.{nothing}
 use Rattle.chain_rules.proofs.Links.{ends-inside, ends, outside, inside}
 use Rattle.chain_rules.proofs.chain.link_at.Statement.{statement}
 use Rattle.chain_rules.proofs.chain.link_at.Tie as tie

@@ -11,7 +11,7 @@ use Rattle.chain_rules.specs.Answers.{answerOf}
 use Rattle.chain_rules.specs.Chain.{fileOf}
 use Rattle.pairs.proofs.Following.{told}
 use Rattle.clash_rules.proofs.Meetings.{load, NoneMeets, met, unmet, none-broken, first-broken}
-use Rattle.clash_rules.proofs.Numbers.{counted}
+use Rattle.chain_rules.proofs.Counts.{counted}
 use Rattle.clash_rules.proofs.loads.check_loads.Statement.{statement}
 use Rattle.clash_rules.proofs.loads.check_loads.Tie as tie
 

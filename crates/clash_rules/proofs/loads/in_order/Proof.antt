@@ -7,11 +7,10 @@ use mathlib.Core.Logic.{⊎-elim}
 use mathlib.Core.Path.{_≡_, sym, _∙_, ap}
 use Rattle.pdi_spec.specs.Laws.Tests.{not-is-false}
 use Rattle.chain_rules.specs.Chain.{fileOf}
-use Rattle.ranges.specs.declared.Range as code
 use Rattle.ranges.specs.Range.{rangeOf, endsBefore}
 use Rattle.pairs.proofs.Following.{ends-before}
 use Rattle.clash_rules.proofs.Meetings.{Ordered, ordered-none, ordered-empty, ordered-next, none-broken}
-use Rattle.clash_rules.proofs.Numbers.{counted}
+use Rattle.chain_rules.proofs.Counts.{counted}
 use Rattle.clash_rules.proofs.loads.in_order.Statement.{statement}
 use Rattle.clash_rules.proofs.loads.in_order.Tie as tie
 

@@ -7,7 +7,7 @@ use Rattle.pdi_spec.specs.Lists.{numbers, anyOf, anyPair}
 use Rattle.pdi_spec.specs.Ranges.{hashBlocks, body, bodies}
 use Rattle.chain_rules.specs.Chain.{fileOf}
 use Rattle.pairs.specs.Lists.{blockClash, crossing, rangesIn}
-use Rattle.clash_rules.specs.Parts.{partOf, partsOf}
+use Rattle.range_lists.specs.Parts.{partOf, partsOf}
 use Rattle.pairs.proofs.Arrays.{and-then}
 use Rattle.clash_rules.proofs.stored.blocks_clash.Statement.{statement}
 use Rattle.clash_rules.proofs.stored.blocks_clash.Tie as tie

@@ -1,18 +1,32 @@
 -- `clash_rules::stored::stored_clash` meets its contract: rule 18's tests, one after the other. Assumes nothing.
 use borrow.Author.Needs.{needs}
 use native.Mathlib.Omega.{arith}
-use mathlib.Core.Bool.{false}
+use mathlib.Core.Bool.{Bool, true, false, _||_, and-true, or-false}
 use mathlib.Core.List.{_++_}
 use mathlib.Core.Path.{_≡_, refl, sym, _∙_, ap}
-use Rattle.pdi_spec.specs.Lists.{anyPair}
-use Rattle.pdi_spec.specs.Ranges.{headerRanges}
+use Rattle.pdi_spec.specs.File.{File}
+use Rattle.pdi_spec.specs.Lists.{anyTrue, anyPair}
+use Rattle.pdi_spec.specs.Ranges.{Range, overlap, headerRanges, hashBlocks, span, spans, bodies}
+use Rattle.pdi_spec.specs.Rules.{storedRangesClash}
 use Rattle.chain_rules.specs.Chain.{fileOf}
-use Rattle.pairs.specs.Lists.{clashes}
-use Rattle.clash_rules.specs.Parts.{partsOf}
+use Rattle.pairs.specs.Lists.{clashes, crossing, blockClash}
+use Rattle.range_lists.specs.Parts.{partOf, partsOf}
 use Rattle.pairs.proofs.Arrays.{and-then, still}
-use Rattle.clash_rules.proofs.Numbers.{stored-tests}
 use Rattle.clash_rules.proofs.stored.stored_clash.Statement.{statement}
 use Rattle.clash_rules.proofs.stored.stored_clash.Tie as tie
+
+-- rule 18's tests: of ranges of headers and spans, and of hash blocks
+stored-tests : (f : File)
+    → storedRangesClash f
+    ≡ (anyPair (clashes false) (headerRanges f ++ partsOf 1 f) || blockClash (hashBlocks f) (headerRanges f ++ bodies f))
+unfolding storedRangesClash clashes blockClash crossing anyTrue spans span partsOf partOf
+stored-tests f =
+    ap (λ (test : Range → Range → Bool). anyPair test (headerRanges f ++ spans f)
+    || (crossing (hashBlocks f) (headerRanges f ++ bodies f) || (anyPair (clashes true) (hashBlocks f) || false)))
+    (sym (λ i a b. and-true (overlap a b) i))
+    ∙ ap (λ (last : Bool). anyPair (clashes false) (headerRanges f ++ spans f)
+    || (crossing (hashBlocks f) (headerRanges f ++ bodies f) || last))
+    (or-false _)
 
 put-parts-requires : tie.Need-put-parts-requires
 put-parts-requires c κs =

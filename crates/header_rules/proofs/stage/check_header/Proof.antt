@@ -18,7 +18,7 @@ use Rattle.headers.specs.Headers.{headerOf}
 use Rattle.chain_rules.specs.Chain.{fileOf}
 use Rattle.header_rules.specs.Headers.{HeaderTold, numberIn}
 use Rattle.header_rules.specs.declared.stage.HeaderAnswer.{HeaderAnswer}
-use Rattle.headers.proofs.Calls.{nothing}
+use Rattle.pdi_spec.specs.Laws.Calls.{nothing}
 use Rattle.header_rules.proofs.stage.check_header.Statement.{statement}
 use Rattle.header_rules.proofs.stage.check_header.Tie as tie
 

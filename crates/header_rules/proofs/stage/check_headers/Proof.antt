@@ -6,13 +6,13 @@ use native.Mathlib.Omega.{arith}
 use mathlib.Core.Option.{Option}
 use mathlib.Core.Path.{_≡_, _∙_, ap, ap₂}
 use Rattle.pdi_spec.specs.File.{partitions}
-use Rattle.pdi_spec.specs.Headers.{Table}
 use Rattle.pdi_spec.specs.RuleList.{headerRules}
 use Rattle.pdi_spec.specs.Verdict.{Outcome}
 use Rattle.chain_rules.specs.Answers.{outcomeOf}
 use Rattle.chain_rules.specs.Chain.{fileOf}
 use Rattle.header_rules.specs.Headers.{verdictUpTo, lowerOf}
-use Rattle.headers.proofs.Calls.{nothing}
+use Rattle.pdi_spec.specs.Laws.Calls.{nothing}
+use Rattle.chain_rules.proofs.Counts.{counted}
 use Rattle.chain_rules.proofs.Verdicts.{answer-is}
 use Rattle.header_rules.proofs.Lowest.{starts, next, ends}
 use Rattle.header_rules.proofs.stage.check_headers.Statement.{statement}
@@ -52,15 +52,11 @@ loop-again c =
           ∙ next _ (l .i),
     )
 
-count-is : (s : tie.Start Inv-loop μ-loop) → s .args .table .partitions ≡ partitions (fileOf (s .args .image .now) (s .args .table))
-unfolding partitions
-count-is s = ap (λ (t : Table). t .partitions) (s .pre .own)
-
 returns : tie.Need-returns Inv-loop μ-loop
 returns c =
     let s = c .before .before .before .before in
     let l = c .before .loop in
-    let all : l .i ≡ partitions (fileOf (s .args .image .now) (s .args .table)) = omega (arith, count-is s) in
+    let all : l .i ≡ partitions (fileOf (s .args .image .now) (s .args .table)) = omega (arith, counted (s .pre)) in
     answer-is (l .answer) (l .inv .1 ∙ ap (verdictUpTo headerRules _) all ∙ ends _)
 
 pub check-headers-spec : {M : Type 1} → statement M

@@ -1,8 +1,10 @@
 -- `reader::bodies::body` meets its contract (Questions.antt). Assumes nothing.
 use borrow.Author.Needs.{needs}
+use Prim.Native.Nat.{_+_, _≤_}
 use native.Mathlib.Omega.{arith}
 use mathlib.Core.Logic.{inl, inr}
 use mathlib.Core.Path.{_∙_}
+use lib.ListN.{length}
 use Rattle.reader.proofs.Questions.{behind, refused-body, no-body, ends, part-is}
 use Rattle.reader.proofs.bodies.body.Statement.{statement}
 use Rattle.reader.proofs.bodies.body.Tie as tie
@@ -68,20 +70,21 @@ header-at-requires c κs =
     let d = c .before .before .before .before .before in
     (d .before .before .check .ensures .held _ _ (d .reading .given .1) .chain, omega arith)
 
-cast-start : tie.Need-cast-start
-cast-start c = search needs
+body-requires : tie.Need-body-requires
+body-requires c κs = search needs
 
-mul-start : tie.Need-mul-start
-mul-start c = search needs
+-- the body ends inside the image
+inside : (c : tie.After-body) → c .body .result .start + c .body .result .size
+    ≤ length (c .before .before .before .before .before .before .before .before .before .before .before .before .before .args .image .now)
+inside c =
+    let d = c .before .before .before .before .before .before .before in
+    ends _ _ (d .before .before .check .ensures) (d .reading .given .1) _ (omega arith) (omega arith) (c .before .header-at .ensures)
+    (c .body .ensures)
 
-cast-end : tie.Need-cast-end
-cast-end c = search needs
-
-mul-end : tie.Need-mul-end
-mul-end c = search needs
-
-add-end : tie.Need-add-end
-add-end c = search needs
+add-result : tie.Need-add-result
+add-result c =
+    let s = c .before .before .before .before .before .before .before .before .before .before .before .before .before in
+    omega (arith, inside c, s .good .0 .0)
 
 sub-result-4 : tie.Need-sub-result-4
 sub-result-4 c = search needs
@@ -90,16 +93,13 @@ part-result-start-4 : tie.Need-part-result-start-4
 part-result-start-4 c = search needs
 
 part-result-end-4 : tie.Need-part-result-end-4
-part-result-end-4 c =
-    let d = c .before .before .before .before .before .before .before .before in
-    ends _ _ (d .before .before .check .ensures) (d .reading .given .1) _ (omega arith) (omega arith)
-    (c .before .before .header-at .ensures)
+part-result-end-4 c = inside c
 
 returns-4 : tie.Need-returns-4
 returns-4 c =
-    let d = c .before .before .before .before .before .before .before .before .before in
+    let d = c .before .before .before .before .before .before .before .before in
     part-is _ _ (d .before .before .check .ensures) (d .reading .given .1) _ (omega arith) (omega arith)
-    (c .before .before .before .header-at .ensures)
+    (c .before .before .header-at .ensures) (c .before .body .ensures)
 
 pub body-spec : {M : Type 1} → statement M
 body-spec =
@@ -122,11 +122,8 @@ body-spec =
     part-result-end-3
     returns-3
     header-at-requires
-    cast-start
-    mul-start
-    cast-end
-    mul-end
-    add-end
+    body-requires
+    add-result
     sub-result-4
     part-result-start-4
     part-result-end-4

@@ -1,7 +1,7 @@
 -- `table_rules::conditions::table_fields_bad` meets its contract: its tests, joined, are the definition's list. Assumes nothing.
 use Rattle.pdi_spec.specs.Rules.{tableFieldsBad}
 use borrow.Author.Needs.{needs}
-use Rattle.headers.proofs.Calls.{nothing}
+use Rattle.pdi_spec.specs.Laws.Calls.{nothing}
 use Rattle.pdi_spec.specs.Laws.Joined.{joined-any}
 use Rattle.table_rules.proofs.conditions.table_fields_bad.Statement.{statement}
 use Rattle.table_rules.proofs.conditions.table_fields_bad.Tie as tie

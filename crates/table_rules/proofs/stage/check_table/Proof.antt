@@ -17,7 +17,7 @@ use Rattle.pdi_spec.specs.Words.{checksum}
 use Rattle.pdi_spec.specs.Laws.Broken.{stops, goes-on}
 use Rattle.headers.specs.Headers.{tableOf}
 use Rattle.table_rules.proofs.Answers.{refused-told, checked-told, table-inside}
-use Rattle.headers.proofs.Calls.{nothing}
+use Rattle.pdi_spec.specs.Laws.Calls.{nothing}
 use Rattle.table_rules.proofs.stage.check_table.Statement.{statement}
 use Rattle.table_rules.proofs.stage.check_table.Tie as tie
 

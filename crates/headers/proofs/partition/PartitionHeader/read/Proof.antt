@@ -4,7 +4,7 @@ use Prim.Native.Nat.{ℕ, _+_, _*_, _^_}
 use native.Mathlib.Omega.{arith}
 use mathlib.Core.Path.{_∙_, ap₂}
 use Rattle.pdi_spec.specs.Headers.{headerFrom}
-use Rattle.headers.proofs.Calls.{nothing}
+use Rattle.pdi_spec.specs.Laws.Calls.{nothing}
 use Rattle.headers.proofs.partition.PartitionHeader.read.Statement.{statement}
 use Rattle.headers.proofs.partition.PartitionHeader.read.Tie as tie
 

@@ -4,7 +4,7 @@ use borrow.Author.Needs.{needs}
 use Prim.Native.Nat.{_≤_, _*_, _^_}
 use native.Mathlib.Nat.{mul-le-mul}
 use native.Mathlib.Omega.{arith}
-use Rattle.headers.proofs.Calls.{nothing}
+use Rattle.pdi_spec.specs.Laws.Calls.{nothing}
 use Rattle.headers.proofs.table.TableHeader.image_headers.Statement.{statement}
 use Rattle.headers.proofs.table.TableHeader.image_headers.Tie as tie
 

@@ -1,0 +1,62 @@
+"""Writes the input of the program `bench_cases`: every case of document 01's "The bench image", starred or not, and cases at the reader's
+edges. Its file `stdin` holds what this writes, and its file `stdout` what document 01 says of each.
+
+A case is its name, padded with spaces to 32 bytes; the image's length, the numbers in the row buffer and the p whose body is asked for, 4
+bytes each; the table place, 8 bytes; all little-endian; and the image. The limits are those of pdi.h, from the environment (limits.sh).
+"""
+
+import os
+import struct
+import sys
+
+sys.dont_write_bytecode = True  # nothing is left beside the sources
+from images import HEADER, MOST, TABLE, bench, edited, two, with_block
+
+ENOUGH = int(os.environ["PDI_ROWS_NUMBERS"])
+
+
+def case(name, image, place=0, rows=ENOUGH, p=1):
+    sys.stdout.buffer.write(struct.pack("<32sIIIQ", name.encode().ljust(32), len(image), rows, p, place) + image)
+
+
+def word(name, offset, value):
+    case(name, edited({offset: value}))
+
+
+def load(name, attributes, high, low):
+    case(name, edited({HEADER + 0x24: attributes, HEADER + 0x1C: high, HEADER + 0x18: low}))
+
+
+case("as_given", bench())
+for length in 0, 1, 127, 128:
+    case(f"image_of_{length}", bench()[:length])
+for place in 0, 2, 4, 208, 212, 2**64 - 4, 2**64 - 1:
+    case(f"place_{place}", bench(), place)
+for rows in ENOUGH + 1, ENOUGH, ENOUGH - 1, 0:
+    case(f"rows_{rows}", bench(), rows=rows)
+case(f"rows_{ENOUGH - 1}_place_2", bench(), 2, ENOUGH - 1)
+
+word("partitions_0", TABLE + 0xC, 0)
+word(f"partitions_{MOST + 1}", TABLE + 0xC, MOST + 1)
+word("table_key_5C3CA5A3", TABLE + 0x40, 0x5C3CA5A3)
+
+word("next_48", HEADER + 0xC, 48)
+word("type_0", HEADER + 0x24, 0x00000001)
+word("attributes_0400C001", HEADER + 0x24, 0x0400C001)
+word("key_A5C3C5A4", HEADER + 0x44, 0xA5C3C5A4)
+word("key_C3A5C573", HEADER + 0x44, 0xC3A5C573)
+word("unencrypted_5", HEADER + 0x4, 5)
+word("total_5", HEADER + 0x8, 5)
+word("total_40000000", HEADER + 0x8, 0x40000000)
+
+load("type_2_load_00100000", 0x02000001, 0, 0x00100000)
+load("type_2_load_FFFFFFFFFFFFFFFF", 0x02000001, 0xFFFFFFFF, 0xFFFFFFFF)
+load("load_FFFFFFFFFFFFFFF0", 0x04000001, 0xFFFFFFFF, 0xFFFFFFF0)
+load("load_FFFFFFFFFFFFFFF1", 0x04000001, 0xFFFFFFFF, 0xFFFFFFF1)
+
+word("data_79", HEADER + 0x20, 79)
+case("block_index_1", with_block(1))
+case("block_index_2", with_block(2))
+case("block_length_52", with_block(1, 52))
+case("second_load_00100010", two(0x00100010), p=2)
+case("second_load_0010000F", two(0x0010000F), p=2)
