@@ -25,20 +25,16 @@ const ROWS: usize = BUFFER + 1;
 
 const FOUND: u64 = 7;
 
-fn text(bytes: &[u8]) {
-    io::write_all(STDOUT_FILENO, bytes);
-}
-
 // A space and a number.
 fn field(n: u64) {
-    text(b" ");
+    io::write_all(STDOUT_FILENO, b" ");
     io::print_decimal(STDOUT_FILENO, n);
 }
 
 // A number of the row buffer, after its index.
 fn entry(i: usize, n: u64) {
     field(i as u64);
-    text(b":");
+    io::write_all(STDOUT_FILENO, b":");
     io::print_decimal(STDOUT_FILENO, n);
 }
 
@@ -71,13 +67,14 @@ fn ask(image: &[u8], place: usize, n: usize, p: usize) {
     let body = reader::body(image, place, p);
     field(body.len() as u64);
     print_changes(&rows);
-    text(b"\n");
+    io::write_all(STDOUT_FILENO, b"\n");
 }
 
+// The fields of a case.
 fn case(bytes: &[u8])
     requires { ⌜ 52 ≤ length (now bytes) ⌝ }
 {
-    text(&bytes[0..LENGTH]);
+    io::write_all(STDOUT_FILENO, &bytes[0..LENGTH]);
     let n = words::word_at(bytes, LENT) as usize;
     let p = words::word_at(bytes, PARTITION) as usize;
     let low = words::word_at(bytes, PLACE) as usize;

@@ -14,7 +14,7 @@ use Rattle.pdi_spec.specs.Ranges.{endOf, past, blockRange}
 use Rattle.pdi_spec.specs.Limits.{mostEntries}
 use Rattle.pdi_spec.specs.Rules.{notFrom, hashBlockBad}
 use Rattle.pdi_spec.specs.Laws.HashBlock.{no-entry}
-use Rattle.pdi_spec.specs.Laws.Joined.{any-by-last}
+use Rattle.pdi_spec.specs.Laws.Alternatives.{any-by-last}
 use Rattle.pdi_spec.specs.Laws.Searches.{NoneOf, found}
 use Rattle.pdi_spec.specs.Laws.Tests.{or-right}
 use Rattle.block_rules.specs.Entries.{NextEntry, blockAnswer, blockAnswerOf}

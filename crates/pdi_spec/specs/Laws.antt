@@ -1,3 +1,4 @@
+pub mod Alternatives
 pub mod Answers
 pub mod Bench
 pub mod Broken
@@ -9,7 +10,6 @@ pub mod Envelope
 pub mod Firsts
 pub mod HashBlock
 pub mod Inside
-pub mod Joined
 pub mod Kept
 pub mod Lists
 pub mod Loading

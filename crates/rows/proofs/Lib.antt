@@ -1,3 +1,3 @@
 -- Laws for the proofs here. Assumes nothing.
+pub mod Stores
 pub mod Totals
-pub mod Written

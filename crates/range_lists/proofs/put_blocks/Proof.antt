@@ -11,7 +11,7 @@ use Rattle.pdi_spec.specs.Ranges.{Range, blockRanges}
 use Rattle.chain_rules.specs.Chain.{fileOf}
 use Rattle.headers.specs.Headers.{blockOf}
 use Rattle.pairs.specs.Lists.{Filled, rangesIn}
-use Rattle.range_lists.proofs.Numbers.{own-block, blocks-joined, partition-more}
+use Rattle.range_lists.proofs.Lists.{own-block, blocks-joined, partition-more}
 use Rattle.range_lists.proofs.put_blocks.Statement.{statement}
 use Rattle.range_lists.proofs.put_blocks.Tie as tie
 

@@ -1,7 +1,7 @@
 -- `range_lists::put_headers` meets its contract. Assumes nothing.
 use native.Mathlib.Omega.{arith}
 use Rattle.pairs.proofs.Arrays.{and-then}
-use Rattle.range_lists.proofs.Numbers.{headers-joined}
+use Rattle.range_lists.proofs.Lists.{headers-joined}
 use Rattle.range_lists.proofs.put_headers.Statement.{statement}
 use Rattle.range_lists.proofs.put_headers.Tie as tie
 

@@ -11,7 +11,7 @@ use Rattle.chain_rules.specs.Chain.{fileOf}
 use Rattle.pairs.specs.Lists.{Filled, rangesIn}
 use Rattle.range_lists.specs.Parts.{partOf, partsOf}
 use Rattle.chain_rules.proofs.Counts.{counted}
-use Rattle.range_lists.proofs.Numbers.{made-joined, partition-more}
+use Rattle.range_lists.proofs.Lists.{made-joined, partition-more}
 use Rattle.range_lists.proofs.put_parts.Statement.{statement}
 use Rattle.range_lists.proofs.put_parts.Tie as tie
 

@@ -1,7 +1,7 @@
 -- `attributes::Attributes::is_bad` meets its contract: its tests, joined, are the definition's list. Assumes nothing.
 use Rattle.pdi_spec.specs.Rules.{attributeWordBad}
 use Rattle.pdi_spec.specs.Laws.Calls.{nothing}
-use Rattle.pdi_spec.specs.Laws.Joined.{joined-any}
+use Rattle.pdi_spec.specs.Laws.Alternatives.{joined-any}
 use Rattle.attributes.proofs.Attributes.is_bad.Statement.{statement}
 use Rattle.attributes.proofs.Attributes.is_bad.Tie as tie
 

@@ -1,6 +1,6 @@
 -- `header_rules::conditions::lengths_bad` meets its contract: its tests, joined, are the definition's list. Assumes nothing.
 use Rattle.pdi_spec.specs.Rules.{lengthsBad}
-use Rattle.pdi_spec.specs.Laws.Joined.{joined-any}
+use Rattle.pdi_spec.specs.Laws.Alternatives.{joined-any}
 use Rattle.header_rules.proofs.conditions.lengths_bad.Statement.{statement}
 use Rattle.header_rules.proofs.conditions.lengths_bad.Tie as tie
 

@@ -5,7 +5,7 @@ use mathlib.Core.Path.{_≡_, refl, _∙_, ap}
 use mathlib.Core.List.{List}
 use lib.ListN.{length, take, set, getD, length-set}
 use lib.Seq.{sets, take-all}
-use Rattle.rows.proofs.Written.{store-next}
+use Rattle.rows.proofs.Stores.{store-next}
 use Rattle.rows.proofs.buffer.put.Statement.{statement}
 use Rattle.rows.proofs.buffer.put.Tie as tie
 

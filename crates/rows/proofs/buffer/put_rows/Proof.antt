@@ -11,7 +11,7 @@ use Rattle.pdi_spec.specs.Limits.{headWidth}
 use Rattle.pdi_spec.specs.Lists.{numbers}
 use Rattle.chain_rules.specs.Chain.{fileOf}
 use Rattle.rows.specs.Rows.{firstRows}
-use Rattle.rows.proofs.Written.{turn}
+use Rattle.rows.proofs.Stores.{turn}
 use Rattle.rows.proofs.buffer.put_rows.Statement.{statement}
 use Rattle.rows.proofs.buffer.put_rows.Tie as tie
 

@@ -1,7 +1,7 @@
 -- `rows::buffer::row_at` meets its contract: the numbers are those that the header states. Assumes nothing.
 use borrow.Author.Needs.{needs}
 use Rattle.pdi_spec.specs.Laws.Calls.{nothing}
-use Rattle.rows.proofs.Written.{row-told}
+use Rattle.rows.proofs.Stores.{row-told}
 use Rattle.rows.proofs.buffer.row_at.Statement.{statement}
 use Rattle.rows.proofs.buffer.row_at.Tie as tie
 

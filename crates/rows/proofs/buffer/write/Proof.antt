@@ -8,7 +8,7 @@ use lib.Seq.{length-sets}
 use Rattle.headers.specs.Headers.{tableOf}
 use Rattle.chain_rules.specs.Chain.{fileOf}
 use Rattle.rows.specs.Rows.{firstRows}
-use Rattle.rows.proofs.Written.{whole}
+use Rattle.rows.proofs.Stores.{whole}
 use Rattle.rows.proofs.buffer.write.Statement.{statement}
 use Rattle.rows.proofs.buffer.write.Tie as tie
 

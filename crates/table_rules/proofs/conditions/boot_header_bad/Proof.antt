@@ -3,7 +3,7 @@ use native.Mathlib.Omega.{arith}
 use borrow.Author.Needs.{needs}
 use Rattle.pdi_spec.specs.Rules.{bootHeaderBad}
 use Rattle.pdi_spec.specs.Laws.Calls.{nothing}
-use Rattle.pdi_spec.specs.Laws.Joined.{joined-any}
+use Rattle.pdi_spec.specs.Laws.Alternatives.{joined-any}
 use Rattle.table_rules.proofs.conditions.boot_header_bad.Statement.{statement}
 use Rattle.table_rules.proofs.conditions.boot_header_bad.Tie as tie
 

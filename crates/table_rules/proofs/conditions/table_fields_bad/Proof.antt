@@ -2,7 +2,7 @@
 use Rattle.pdi_spec.specs.Rules.{tableFieldsBad}
 use borrow.Author.Needs.{needs}
 use Rattle.pdi_spec.specs.Laws.Calls.{nothing}
-use Rattle.pdi_spec.specs.Laws.Joined.{joined-any}
+use Rattle.pdi_spec.specs.Laws.Alternatives.{joined-any}
 use Rattle.table_rules.proofs.conditions.table_fields_bad.Statement.{statement}
 use Rattle.table_rules.proofs.conditions.table_fields_bad.Tie as tie
 
