@@ -12,6 +12,7 @@ use Rattle.pdi_spec.specs.Answers.{hashEntry}
 use Rattle.pdi_spec.specs.File.{File, partitions, header, hashBlock}
 use Rattle.pdi_spec.specs.HashBlock.{hashEntryIn}
 use Rattle.pdi_spec.specs.Headers.{Block, Header}
+use Rattle.pdi_spec.specs.Limits.{mostPartitions}
 use Rattle.pdi_spec.specs.RuleList.{rule17}
 use Rattle.pdi_spec.specs.Rules.{hashBlockWrong}
 use Rattle.pdi_spec.specs.Verdict.{eachAndTable, verdict}
@@ -50,10 +51,10 @@ module _ (f : File) (p : ℕ) {b : Block} (own : b ≡ hashBlock f p) where
 -- ---- the loop
 
 -- after i partitions: no block is bad so far, the table's among them, and the i entries are stored
-pub record Along (f : File) (entries : List ℕ) (i : ℕ) : Type 0 where
+pub record BlocksSoFar (f : File) (entries : List ℕ) (i : ℕ) : Type 0 where
   pub none : NoneOf (hashBlockWrong f) 0 (i + 1)
   pub stored : (k : ℕ) → k < i → getD entries k 0 ≡ hashEntry f (k + 1)
-  pub room : length entries ≡ 32
+  pub room : length entries ≡ mostPartitions
 
 module _ (f : File) where
   pub table-broken : hashBlockWrong f 0 ≡ true → Answer.Refused 17 0 ≡ answerOf (verdict (rule17 ∷ []) f)
@@ -61,7 +62,7 @@ module _ (f : File) where
   table-broken e =
       one-broken rule17 f (found (hashBlockWrong f) 0 (suc (partitions f)) 0 (none-yet (hashBlockWrong f) 0) (omega arith) e)
 
-  pub starts : (entries : List ℕ) → hashBlockWrong f 0 ≡ false → length entries ≡ 32 → Along f entries 0
+  pub starts : (entries : List ℕ) → hashBlockWrong f 0 ≡ false → length entries ≡ mostPartitions → BlocksSoFar f entries 0
   starts entries e l =
       record {
         none = one-more (hashBlockWrong f) 0 0 (none-yet (hashBlockWrong f) 0) e;
@@ -69,10 +70,10 @@ module _ (f : File) where
         room = l;
       }
 
-  module _ {entries : List ℕ} {i : ℕ} (along : Along f entries i) where
+  module _ {entries : List ℕ} {i : ℕ} (so-far : BlocksSoFar f entries i) where
     pub kept : i ≡ partitions f → Answer.Kept ≡ answerOf (verdict (rule17 ∷ []) f)
     unfolding eachAndTable
-    kept e = one-kept rule17 f (not-found (hashBlockWrong f) 0 (suc (partitions f)) (λ k l. along .none k (omega arith)))
+    kept e = one-kept rule17 f (not-found (hashBlockWrong f) 0 (suc (partitions f)) (λ k l. so-far .none k (omega arith)))
 
     same : 0 + (i + 1) ≡ i + 1
     same = omega arith
@@ -82,16 +83,16 @@ module _ (f : File) where
     broken l e =
         ap (Answer.Refused 17) (sym same)
         ∙ one-broken rule17 f
-        (found (hashBlockWrong f) 0 (suc (partitions f)) (i + 1) (along .none) (omega arith) (ap (hashBlockWrong f) same ∙ e))
+        (found (hashBlockWrong f) 0 (suc (partitions f)) (i + 1) (so-far .none) (omega arith) (ap (hashBlockWrong f) same ∙ e))
 
-    pub onward : i < 32 → hashBlockWrong f (i + 1) ≡ false → {entry : ℕ} → entry ≡ hashEntry f (i + 1)
-        → Along f (set entries i entry) (i + 1)
+    pub onward : i < mostPartitions → hashBlockWrong f (i + 1) ≡ false → {entry : ℕ} → entry ≡ hashEntry f (i + 1)
+        → BlocksSoFar f (set entries i entry) (i + 1)
     onward l e {entry} is =
         record {
-          none = one-more (hashBlockWrong f) 0 (i + 1) (along .none) (ap (hashBlockWrong f) same ∙ e);
-          stored = below-more _ i earlier (getD-set-same entries i entry 0 (omega (arith, along .room)) ∙ is);
-          room = length-set entries i entry ∙ along .room;
+          none = one-more (hashBlockWrong f) 0 (i + 1) (so-far .none) (ap (hashBlockWrong f) same ∙ e);
+          stored = below-more _ i earlier (getD-set-same entries i entry 0 (omega (arith, so-far .room)) ∙ is);
+          room = length-set entries i entry ∙ so-far .room;
         }
       where
         earlier : (k : ℕ) → k < i → getD (set entries i entry) k 0 ≡ hashEntry f (k + 1)
-        earlier k h = getD-set-other entries i k entry 0 (λ e. omega arith) ∙ along .stored k h
+        earlier k h = getD-set-other entries i k entry 0 (λ e. omega arith) ∙ so-far .stored k h

@@ -8,6 +8,7 @@ use lib.Seq.{getD-set-same, getD-set-other}
 use borrow.Author.Count.{below-more}
 use Rattle.pdi_spec.specs.File.{File, partitions, partitionNumbers, headerAt}
 use Rattle.pdi_spec.specs.Headers.{headerSize}
+use Rattle.pdi_spec.specs.Limits.{mostPartitions}
 use Rattle.pdi_spec.specs.RuleList.{rule10}
 use Rattle.pdi_spec.specs.Rules.{chainBroken}
 use Rattle.pdi_spec.specs.Verdict.{each, verdict}
@@ -24,20 +25,20 @@ abbrev pub Lies : File → List ℕ → ℕ → Type 0
 Lies f offsets k = (getD offsets k 0 ≡ headerAt f (k + 1)) × (getD offsets k 0 + headerSize ≤ length (f .bytes))
 
 -- after i links: no rule is broken so far, the i offsets are stored, and `at` is where the next header lies
-pub record Along (f : File) (offsets : List ℕ) (at i : ℕ) : Type 0 where
+pub record ChainSoFar (f : File) (offsets : List ℕ) (at i : ℕ) : Type 0 where
   pub none : NoneOf (chainBroken f) 1 i
   pub stored : (k : ℕ) → k < i → Lies f offsets k
   pub next : at ≡ headerAt f (i + 1)
-  pub room : length offsets ≡ 32
+  pub room : length offsets ≡ mostPartitions
 
-pub starts : (f : File) (offsets : List ℕ) {at : ℕ} → at ≡ headerAt f 1 → length offsets ≡ 32 → Along f offsets at 0
+pub starts : (f : File) (offsets : List ℕ) {at : ℕ} → at ≡ headerAt f 1 → length offsets ≡ mostPartitions → ChainSoFar f offsets at 0
 starts f offsets e l =
     record { none = none-yet (chainBroken f) 1; stored = λ k h. absurd (omega arith); next = e; room = l }
 
-module _ (f : File) {offsets : List ℕ} {at i : ℕ} (along : Along f offsets at i) where
+module _ (f : File) {offsets : List ℕ} {at i : ℕ} (so-far : ChainSoFar f offsets at i) where
   pub kept : i ≡ partitions f → Answer.Kept ≡ answerOf (verdict (rule10 ∷ []) f)
   unfolding each partitionNumbers
-  kept e = one-kept rule10 f (not-found (chainBroken f) 1 (partitions f) (λ k l. along .none k (omega arith)))
+  kept e = one-kept rule10 f (not-found (chainBroken f) 1 (partitions f) (λ k l. so-far .none k (omega arith)))
 
   pub broken : i < partitions f → linkAt f (i + 1) ≡ Link.Broken → Answer.Refused 10 (i + 1) ≡ answerOf (verdict (rule10 ∷ []) f)
   unfolding each partitionNumbers
@@ -45,17 +46,17 @@ module _ (f : File) {offsets : List ℕ} {at i : ℕ} (along : Along f offsets a
       let same : 1 + i ≡ i + 1 = omega arith in
       ap (Answer.Refused 10) (sym same)
       ∙ one-broken rule10 f
-      (found (chainBroken f) 1 (partitions f) i (along .none) l (ap (chainBroken f) same ∙ link-broken f (i + 1) e))
+      (found (chainBroken f) 1 (partitions f) i (so-far .none) l (ap (chainBroken f) same ∙ link-broken f (i + 1) e))
 
-  pub onward : i < 32 → {next : ℕ} → linkAt f (i + 1) ≡ Link.Next next → Along f (set offsets i at) (4 * next) (i + 1)
+  pub onward : i < mostPartitions → {next : ℕ} → linkAt f (i + 1) ≡ Link.Next next → ChainSoFar f (set offsets i at) (4 * next) (i + 1)
   onward l e =
       let t = link-next f (i + 1) e in
       let same : 1 + i ≡ i + 1 = omega arith in
       record {
-        none = one-more (chainBroken f) 1 i (along .none) (ap (chainBroken f) same ∙ t .0);
-        stored = below-more (Lies f (set offsets i at)) i (λ k h. earlier k h (along .stored k h)) (here (header-inside f (i + 1) (t .0)));
+        none = one-more (chainBroken f) 1 i (so-far .none) (ap (chainBroken f) same ∙ t .0);
+        stored = below-more (Lies f (set offsets i at)) i (λ k h. earlier k h (so-far .stored k h)) (here (header-inside f (i + 1) (t .0)));
         next = ap (λ (n : ℕ). 4 * n) (t .1) ∙ sym (next-at f i);
-        room = length-set offsets i at ∙ along .room;
+        room = length-set offsets i at ∙ so-far .room;
       }
     where
       earlier : (k : ℕ) → k < i → Lies f offsets k → Lies f (set offsets i at) k
@@ -65,5 +66,5 @@ module _ (f : File) {offsets : List ℕ} {at i : ℕ} (along : Along f offsets a
 
       here : headerAt f (i + 1) + headerSize ≤ length (f .bytes) → Lies f (set offsets i at) i
       here h =
-          let same : getD (set offsets i at) i 0 ≡ at = getD-set-same offsets i at 0 (omega (arith, along .room)) in
-          (same ∙ along .next, omega (arith, same, along .next))
+          let same : getD (set offsets i at) i 0 ≡ at = getD-set-same offsets i at 0 (omega (arith, so-far .room)) in
+          (same ∙ so-far .next, omega (arith, same, so-far .next))

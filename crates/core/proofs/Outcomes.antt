@@ -10,12 +10,12 @@ use Rattle.pdi_spec.specs.Answers.{asked}
 use Rattle.pdi_spec.specs.File.{File, table, partitions}
 use Rattle.pdi_spec.specs.Headers.{tableFrom}
 use Rattle.pdi_spec.specs.Limits.{longestImage, mostPartitions}
-use Rattle.pdi_spec.specs.RuleList.{tableRules, partitionRules, clashRules, plainRules}
+use Rattle.pdi_spec.specs.RuleList.{tableRules}
 use Rattle.pdi_spec.specs.Rules.{imageTooLong}
 use Rattle.pdi_spec.specs.Verdict.{Rule, once, Outcome, accepted, refused, verdict}
 use Rattle.pdi_spec.specs.Laws.Kept.{counts-stated}
 use Rattle.pdi_spec.specs.Laws.Refusals.{table-p, table-counts}
-use Rattle.pdi_spec.specs.Laws.Verdict.{andThen, accepted-kept}
+use Rattle.pdi_spec.specs.Laws.Verdict.{andThen, verdict-append, accepted-kept}
 use Rattle.headers.specs.Headers.{tableOf}
 use Rattle.headers.specs.declared.table.TableHeader.{TableHeader}
 use Rattle.table_rules.specs.Answers.{toTable, tableAnswerOf, tableAnswer}
@@ -23,19 +23,19 @@ use Rattle.table_rules.specs.declared.TableAnswer.{TableAnswer}
 use Rattle.chain_rules.specs.Answers.{answerOf}
 use Rattle.chain_rules.specs.Chain.{IsTable, fileOf}
 use Rattle.chain_rules.specs.declared.Answer.{Answer}
-use Rattle.core.specs.Readings.{coreRules, outcomeOf, Held, Told}
+use Rattle.core.specs.Readings.{coreRules, outcomeOf, Held, CoreAnswer}
 use Rattle.core.specs.declared.Reading.{Reading}
-use Rattle.core.proofs.Stages.{plain-split, once-broken, once-kept}
+use Rattle.core.proofs.Stages.{once-broken, once-kept}
 
 -- ---- the two kinds of answers
 
 module _ {bytes : List ℕ} {place : ℕ} {rs : List Rule} {offsets entries : List ℕ} where
-  pub refused-told : {k p : ℕ} → refused k p ≡ verdict rs (asked bytes place) → Told bytes place rs offsets entries (Reading.Refused k p)
+  pub refused-told : {k p : ℕ} → refused k p ≡ verdict rs (asked bytes place) → CoreAnswer bytes place rs offsets entries (Reading.Refused k p)
   unfolding outcomeOf
   refused-told e = record { told = e; held = λ t bill q. let z : _≡_ {A = ℕ} 0 1 = cc in absurd (omega arith) }
 
   pub accepted-told : {t : TableHeader} {bill : ℕ} → accepted ≡ verdict rs (asked bytes place) → Held bytes place t bill offsets entries
-      → Told bytes place rs offsets entries (Reading.Accepted t bill)
+      → CoreAnswer bytes place rs offsets entries (Reading.Accepted t bill)
   unfolding outcomeOf
   accepted-told {t} {bill} e h = record {
     told = e;
@@ -64,18 +64,20 @@ module _ (bytes : List ℕ) (place : ℕ) (short : Bool) (own : List Rule) where
     pub passes : short ≡ false → verdict own (asked bytes place) ≡ verdict (coreRules short own) (asked bytes place)
     passes e = sym (first-kept ∙ once-kept 2 (λ f. short) own (asked bytes place) e)
 
--- ---- the table's stage
+-- ---- the table's stage, with any rules after the table's
 
-pub table-refused : (f : File) {k : ℕ} → tableAnswer f ≡ TableAnswer.Refused k → refused k 0 ≡ verdict plainRules f
+pub table-refused : (later : List Rule) (f : File) {k : ℕ} → tableAnswer f ≡ TableAnswer.Refused k
+    → refused k 0 ≡ verdict (tableRules ++ later) f
 unfolding tableAnswer tableAnswerOf andThen
-table-refused f {k} e = go (verdict tableRules f) refl e
+table-refused later f {k} e = go (verdict tableRules f) refl e
   where
-    go : (o : Outcome) → verdict tableRules f ≡ o → tableAnswerOf o (table f) ≡ TableAnswer.Refused k → refused k 0 ≡ verdict plainRules f
+    go : (o : Outcome) → verdict tableRules f ≡ o → tableAnswerOf o (table f) ≡ TableAnswer.Refused k
+        → refused k 0 ≡ verdict (tableRules ++ later) f
     go accepted q t = let z : _≡_ {A = ℕ} 0 1 = cc in absurd (omega arith)
     go (refused m p) q t =
         let same : m ≡ k = cc in
         let zero : p ≡ 0 = table-p f m p q in
-        sym (plain-split f ∙ rw (q, same, zero) refl)
+        sym (verdict-append tableRules later f ∙ rw (q, same, zero) refl)
 
 -- what a checked table is
 pub record TableKept (bytes : List ℕ) (place : ℕ) (t : TableHeader) : Type 0 where
@@ -103,32 +105,31 @@ table-checked bytes place {t} e = go (verdict tableRules (asked bytes place)) re
           few = subst (λ (u : TableHeader). u .partitions ≤ mostPartitions) same few;
         }
 
--- ---- rules 10 to 19
+-- ---- the rules after the table's
 
-module _ (bytes : List ℕ) (place : ℕ) {t : TableHeader} (k : TableKept bytes place t) where
-  -- what is left to the partitions, of the file that was asked about
-  rest : (o : Outcome) → verdict (partitionRules ++ clashRules) (fileOf bytes t) ≡ o → o ≡ verdict plainRules (asked bytes place)
+module _ (bytes : List ℕ) (place : ℕ) (later : List Rule) {t : TableHeader} (k : TableKept bytes place t) {r : Answer}
+    (told : r ≡ answerOf (verdict later (fileOf bytes t))) where
+  -- they alone settle the answer of the file that was asked about
+  rest : (o : Outcome) → verdict later (fileOf bytes t) ≡ o → o ≡ verdict (tableRules ++ later) (asked bytes place)
   unfolding andThen
   rest o e =
-      sym (plain-split (asked bytes place)
-      ∙ rw (k .kept) (ap (λ (p : ℕ). verdict (partitionRules ++ clashRules) (asked bytes p)) (sym (k .at-place)) ∙ e))
+      sym (verdict-append tableRules later (asked bytes place)
+      ∙ rw (k .kept) (ap (λ (p : ℕ). verdict later (asked bytes p)) (sym (k .at-place)) ∙ e))
 
-  pub all-kept : {r : Answer} → r ≡ answerOf (verdict (partitionRules ++ clashRules) (fileOf bytes t)) → r ≡ Answer.Kept
-      → accepted ≡ verdict plainRules (asked bytes place)
+  pub all-kept : r ≡ Answer.Kept → accepted ≡ verdict (tableRules ++ later) (asked bytes place)
   unfolding answerOf
-  all-kept told e = go (verdict (partitionRules ++ clashRules) (fileOf bytes t)) refl (sym told ∙ e)
+  all-kept e = go (verdict later (fileOf bytes t)) refl (sym told ∙ e)
     where
-      go : (o : Outcome) → verdict (partitionRules ++ clashRules) (fileOf bytes t) ≡ o → answerOf o ≡ Answer.Kept
-          → accepted ≡ verdict plainRules (asked bytes place)
+      go : (o : Outcome) → verdict later (fileOf bytes t) ≡ o → answerOf o ≡ Answer.Kept
+          → accepted ≡ verdict (tableRules ++ later) (asked bytes place)
       go accepted q h = rest accepted q
       go (refused m p) q h = let z : _≡_ {A = ℕ} 0 1 = cc in absurd (omega arith)
 
-  pub one-refused : {r : Answer} {m p : ℕ} → r ≡ answerOf (verdict (partitionRules ++ clashRules) (fileOf bytes t)) → r ≡ Answer.Refused m p
-      → refused m p ≡ verdict plainRules (asked bytes place)
+  pub one-refused : {m p : ℕ} → r ≡ Answer.Refused m p → refused m p ≡ verdict (tableRules ++ later) (asked bytes place)
   unfolding answerOf
-  one-refused {r} {m} {p} told e = go (verdict (partitionRules ++ clashRules) (fileOf bytes t)) refl (sym told ∙ e)
+  one-refused {m} {p} e = go (verdict later (fileOf bytes t)) refl (sym told ∙ e)
     where
-      go : (o : Outcome) → verdict (partitionRules ++ clashRules) (fileOf bytes t) ≡ o → answerOf o ≡ Answer.Refused m p
-          → refused m p ≡ verdict plainRules (asked bytes place)
+      go : (o : Outcome) → verdict later (fileOf bytes t) ≡ o → answerOf o ≡ Answer.Refused m p
+          → refused m p ≡ verdict (tableRules ++ later) (asked bytes place)
       go accepted q h = let z : _≡_ {A = ℕ} 0 1 = cc in absurd (omega arith)
       go (refused a b) q h = let same : refused m p ≡ refused a b = cc in same ∙ rest (refused a b) q

@@ -1,10 +1,10 @@
--- What the core answers, for the rules of plain reading, and what it hands on of an accepted image. Assumes nothing.
+-- What the core answers, for any list of rules, and what it hands on of an accepted image. Assumes nothing.
 use Prim.Native.Nat.{ℕ}
 use mathlib.Core.Bool.{Bool}
-use mathlib.Core.List.{List, _∷_, _++_}
+use mathlib.Core.List.{List, _∷_}
 use mathlib.Core.Path.{_≡_}
 use Rattle.pdi_spec.specs.Answers.{asked, billed}
-use Rattle.pdi_spec.specs.RuleList.{rule1, partitionRules, clashRules}
+use Rattle.pdi_spec.specs.RuleList.{rule1}
 use Rattle.pdi_spec.specs.Verdict.{Rule, once, Outcome, accepted, refused, verdict}
 use Rattle.headers.specs.declared.table.TableHeader.{TableHeader}
 use Rattle.table_rules.specs.declared.TableAnswer.{TableAnswer}
@@ -28,9 +28,10 @@ unfoldable pub numberIn : TableAnswer → ℕ
 numberIn (TableAnswer.Refused number) = number
 numberIn (TableAnswer.Checked t) = 0
 
--- what rules 10 to 19 say, and where they are kept the headers' offsets and their hash entries
-pub record Partitions (bytes : List ℕ) (t : TableHeader) (offsets entries : List ℕ) (r : Answer) : Type 0 where
-  pub told : r ≡ answerOf (verdict (partitionRules ++ clashRules) (fileOf bytes t))
+-- what the rules after the table's say, and where they are kept the headers' offsets and their hash entries
+pub record PartitionsAnswer (bytes : List ℕ) (t : TableHeader) (later : List Rule) (offsets entries : List ℕ) (r : Answer)
+    : Type 0 where
+  pub told : r ≡ answerOf (verdict later (fileOf bytes t))
   pub chain : r ≡ Answer.Kept → Chain bytes t offsets
   pub entries-are : r ≡ Answer.Kept → Entries bytes t entries
 
@@ -42,6 +43,6 @@ pub record Held (bytes : List ℕ) (place : ℕ) (t : TableHeader) (bill : ℕ) 
   pub billed-is : bill ≡ billed (fileOf bytes t)
 
 -- the core's promise, for a list of rules
-pub record Told (bytes : List ℕ) (place : ℕ) (rs : List Rule) (offsets entries : List ℕ) (r : Reading) : Type 0 where
+pub record CoreAnswer (bytes : List ℕ) (place : ℕ) (rs : List Rule) (offsets entries : List ℕ) (r : Reading) : Type 0 where
   pub told : outcomeOf r ≡ verdict rs (asked bytes place)
   pub held : (t : TableHeader) (bill : ℕ) → r ≡ Reading.Accepted t bill → Held bytes place t bill offsets entries

@@ -1,29 +1,18 @@
 -- Numbers stored in a byte buffer one after another, 8 bytes each. Assumes nothing.
-use Prim.Native.Nat.{ℕ, suc, _+_, _*_, _≤_, _<_}
+use Prim.Native.Nat.{ℕ, _+_, _*_, _≤_, _<_}
 use native.Mathlib.Numerals.{add-one}
 use native.Mathlib.Omega.{arith}
-use mathlib.Core.List.{List, [], _∷_, _++_, flatMap, append-assoc, append-nil}
+use mathlib.Core.List.{List, [], _∷_, _++_, flatMap}
 use mathlib.Core.Path.{_≡_, sym, _∙_, ap}
-use lib.ListN.{length, take, drop, getD, set}
+use lib.ListN.{length, take, drop, getD}
 use lib.Seq.{sets, sets-eq, length-sets, take-suc, length-take-le}
 use Rattle.pdi_spec.specs.Host.{leBytes}
 use Rattle.pdi_spec.specs.Laws.Answers.{bytes-length}
+use Rattle.pdi_spec.specs.Laws.Lists.{flatMap-more, sets-append}
 use Rattle.pdi_spec.specs.Limits.{numberBytes}
 
 abbrev pub bytesOf : List ℕ → List ℕ
 bytesOf = flatMap (leBytes numberBytes)
-
-bytes-more : (xs : List ℕ) (x : ℕ) → bytesOf (xs ++ (x ∷ [])) ≡ bytesOf xs ++ leBytes numberBytes x
-unfolding flatMap
-bytes-more [] x = append-nil (leBytes numberBytes x)
-bytes-more (y ∷ ys) x =
-    ap (λ (l : List ℕ). leBytes numberBytes y ++ l) (bytes-more ys x)
-    ∙ sym (append-assoc (leBytes numberBytes y) (bytesOf ys) (leBytes numberBytes x))
-
--- what is stored right behind other bytes is stored with them
-sets-append : (l xs ys : List ℕ) (i k : ℕ) → k ≡ i + length xs → sets (sets l i xs) k ys ≡ sets l i (xs ++ ys)
-sets-append l [] ys i k e = let z : k ≡ i = omega arith in ap (λ (j : ℕ). sets l j ys) z
-sets-append l (x ∷ xs) ys i k e = sets-append (set l i x) xs ys (suc i) k (omega arith)
 
 -- a turn of the loop: `rows` has the first i numbers, and `after` the next one as well
 pub turn : (numbers start rows after : List ℕ) (i d : ℕ) → i < length numbers
@@ -44,7 +33,7 @@ turn numbers start rows after i d h er ea = (ap length more ∙ length-sets star
         ea
         ∙ ap (λ (l : List ℕ). sets l (numberBytes * i) next) er
         ∙ sets-append start (bytesOf (take i numbers)) next 0 (numberBytes * i) (omega (arith, stored))
-        ∙ ap (sets start 0) (sym (bytes-more (take i numbers) (getD numbers i d)) ∙ ap bytesOf one-more)
+        ∙ ap (sets start 0) (sym (flatMap-more (leBytes numberBytes) (take i numbers) (getD numbers i d)) ∙ ap bytesOf one-more)
 
 -- where there is room for all of them, they come first and the rest is as it was
 pub whole : (xs start : List ℕ) → numberBytes * length xs ≤ length start

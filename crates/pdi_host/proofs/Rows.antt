@@ -1,5 +1,5 @@
--- The host's read by read itself: both answer alike where both buffers serve, or neither does, and what read wrote is what the host's
--- row buffer takes, 8 bytes to a number. Assumes nothing.
+-- The host's read by read itself, of any question: both answer alike where both buffers serve, or neither does, and what read wrote is
+-- what the host's row buffer takes, 8 bytes to a number. Assumes nothing.
 use Prim.Native.Nat.{ℕ, _+_, _*_, _≤_, _<_}
 use native.Mathlib.Omega.{arith}
 use mathlib.Core.Bool.{Bool}
@@ -9,39 +9,39 @@ use lib.Dec.{ltb, lit<}
 use lib.ListN.{length, take, drop, getD}
 use lib.Seq.{sets, take-at}
 use borrow.Author.Tests.{lt-ltb}
-use Rattle.pdi_spec.specs.{Limits.mostPartitions, Limits.headWidth, Limits.rowWidth, Limits.bufferNumbers, Limits.bufferBytes, Limits.numberBytes, File.File, File.partitions, Verdict.once, Verdict.verdict, Verdict.accepted, Rules.bufferTooShort, RuleList.rule1, RuleList.plainRules, RuleList.withBuffer, RuleList.withRows, RuleList.withHostRows, Answers.answer, Answers.asked, Answers.headAndRows, Answers.readBy, Answers.rowsBy, Answers.readAnswer, Answers.readRows, Host.hostReadBy, Host.hostAnswer, Host.hostRows, Stated.byRows}
-use Rattle.pdi_spec.specs.Laws.{Answers.host-accepts, Answers.host-same, Answers.host-refused, Answers.host-rows, Answers.read-accepts, Answers.read-length, Answers.read-verdict, Plain.plain, Refusals.few-partitions, Rows.written-length, Rows.after-accepted, Rows.rows-state}
+use Rattle.pdi_spec.specs.{Limits.mostPartitions, Limits.headWidth, Limits.rowWidth, Limits.bufferNumbers, Limits.bufferBytes, Limits.numberBytes, File.File, File.partitions, Verdict.Rule, Verdict.once, Verdict.verdict, Verdict.accepted, Rules.bufferTooShort, RuleList.rule1, RuleList.withBuffer, RuleList.withRows, RuleList.withHostRows, Answers.answer, Answers.asked, Answers.headAndRows, Answers.readBy, Answers.rowsBy, Host.hostReadBy, Host.hostRowsBy, Stated.byRows, Supported.Supported}
+use Rattle.pdi_spec.specs.Laws.{Answers.host-accepts, Answers.host-same, Answers.host-refused, Answers.host-rows, Answers.read-accepts, Answers.read-length, Answers.read-verdict, Refusals.few-partitions, Rows.written-length, Rows.after-accepted, Rows.rows-state}
 use Rattle.pdi_host.proofs.Buffers.{bytesOf, whole}
 
 -- rule 2 broken for both
-both-short : (image : List ℕ) (place : ℕ) (rows bytes : List ℕ) → length rows < bufferNumbers → length bytes < bufferBytes
-    → hostAnswer image place bytes ≡ readAnswer image place rows
+both-short : (own : List Rule) (image : List ℕ) (place : ℕ) (rows bytes : List ℕ) → length rows < bufferNumbers
+    → length bytes < bufferBytes → hostReadBy own image place bytes ≡ readBy own image place rows
 unfolding hostReadBy readBy withHostRows withRows withBuffer bufferTooShort
-both-short image place rows bytes h k =
-    ap (λ (b : Bool). answer (verdict (rule1 ∷ once 2 (λ g. b) ∷ plainRules) (asked image place)))
+both-short own image place rows bytes h k =
+    ap (λ (b : Bool). answer (verdict (rule1 ∷ once 2 (λ g. b) ∷ own) (asked image place)))
     {x = ltb (length bytes) bufferBytes} {y = ltb (length rows) bufferNumbers}
     (lt-ltb (length bytes) bufferBytes k ∙ sym (lt-ltb (length rows) bufferNumbers h))
 
-module _ (image : List ℕ) (place : ℕ) where
+module _ {own : List Rule} (s : Supported own) (image : List ℕ) (place : ℕ) where
   abbrev f : File
   f = asked image place
 
   -- what read leaves in a buffer that serves, where it accepts
-  module _ (rows : List ℕ) (size : length rows ≡ bufferNumbers) {r : ℕ} (er : r ≡ readAnswer image place rows) (z : r ≡ 0)
-      {numbers : List ℕ} (en : numbers ≡ readRows image place rows) where
-    accepted-by : verdict (withRows (length rows) plainRules) f ≡ accepted
-    accepted-by = read-verdict plain image place rows (sym er ∙ z)
+  module _ (rows : List ℕ) (size : length rows ≡ bufferNumbers) {r : ℕ} (er : r ≡ readBy own image place rows) (z : r ≡ 0)
+      {numbers : List ℕ} (en : numbers ≡ rowsBy own image place rows) where
+    accepted-by : verdict (withRows (length rows) own) f ≡ accepted
+    accepted-by = read-verdict s image place rows (sym er ∙ z)
 
     count : getD numbers 2 0 ≡ partitions f
     unfolding rowsBy byRows
     count = ap (λ (l : List ℕ). getD l 2 0) en ∙ rows-state _ f rows accepted-by .same-count
 
     few : partitions f ≤ mostPartitions
-    few = few-partitions plain f (read-accepts plain image place rows .0 (sym er ∙ z) .1)
+    few = few-partitions s f (read-accepts s image place rows .0 (sym er ∙ z) .1)
 
     -- as many numbers as a row buffer has, and not more of them written
     pub numbers-few : (length numbers ≡ bufferNumbers) × (headWidth + rowWidth * getD numbers 2 0 ≤ bufferNumbers)
-    numbers-few = (ap length en ∙ read-length plain image place rows ∙ size, omega (arith, count, few))
+    numbers-few = (ap length en ∙ read-length s image place rows ∙ size, omega (arith, count, few))
 
     -- those are the head and the rows
     taken : take (headWidth + rowWidth * getD numbers 2 0) numbers ≡ headAndRows f
@@ -52,25 +52,25 @@ module _ (image : List ℕ) (place : ℕ) where
 
   module _ (bytes : List ℕ) where
     abbrev Answers : ℕ → List ℕ → Type 0
-    Answers r after = (r ≡ hostAnswer image place bytes) × (after ≡ hostRows image place bytes)
+    Answers r after = (r ≡ hostReadBy own image place bytes) × (after ≡ hostRowsBy own image place bytes)
 
     -- a buffer that is too short
-    pub short-answers : length bytes < bufferBytes → {r : ℕ} → r ≡ readAnswer image place (0 ∷ []) → Answers r bytes
+    pub short-answers : length bytes < bufferBytes → {r : ℕ} → r ≡ readBy own image place (0 ∷ []) → Answers r bytes
     short-answers h e = (
-      e ∙ sym (both-short image place (0 ∷ []) bytes (lit< tt) h),
-      sym (host-refused plainRules image place bytes (λ z. absurd (omega (arith, host-accepts plain image place bytes .0 z .0)))),
+      e ∙ sym (both-short own image place (0 ∷ []) bytes (lit< tt) h),
+      sym (host-refused own image place bytes (λ z. absurd (omega (arith, host-accepts s image place bytes .0 z .0)))),
     )
 
     -- one that serves, and read's own
     module _ (room : bufferBytes ≤ length bytes) (rows : List ℕ) (size : length rows ≡ bufferNumbers) {r : ℕ}
-        (er : r ≡ readAnswer image place rows) where
-      same-answer : r ≡ hostAnswer image place bytes
-      same-answer = er ∙ sym (host-same plainRules image place rows bytes (omega arith) room)
+        (er : r ≡ readBy own image place rows) where
+      same-answer : r ≡ hostReadBy own image place bytes
+      same-answer = er ∙ sym (host-same own image place rows bytes (omega arith) room)
 
       pub refused-answers : (r ≡ 0 → ⊥) → Answers r bytes
-      refused-answers n = (same-answer, sym (host-refused plainRules image place bytes (λ z. n (same-answer ∙ z))))
+      refused-answers n = (same-answer, sym (host-refused own image place bytes (λ z. n (same-answer ∙ z))))
 
-      pub accepted-answers : (z : r ≡ 0) {numbers : List ℕ} (en : numbers ≡ readRows image place rows) {after : List ℕ}
+      pub accepted-answers : (z : r ≡ 0) {numbers : List ℕ} (en : numbers ≡ rowsBy own image place rows) {after : List ℕ}
           → after ≡ sets bytes 0 (bytesOf (take (headWidth + rowWidth * getD numbers 2 0) numbers)) → Answers r after
       accepted-answers z en ea = (
         same-answer,
@@ -78,5 +78,5 @@ module _ (image : List ℕ) (place : ℕ) where
             ∙ ap (λ (l : List ℕ). sets bytes 0 (bytesOf l)) (taken rows size er z en)
             ∙ whole (headAndRows f) bytes (omega (arith, written-length f, few rows size er z en))
             ∙ ap (λ (n : ℕ). bytesOf (headAndRows f) ++ drop (numberBytes * n) bytes) (written-length f)
-            ∙ sym (host-rows plain image place bytes (sym same-answer ∙ z)),
+            ∙ sym (host-rows s image place bytes (sym same-answer ∙ z)),
       )

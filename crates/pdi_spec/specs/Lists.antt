@@ -1,9 +1,9 @@
 -- Plain tools on lists and tests, for the definitions of the other files. Assumes nothing.
 use Prim.Native.Nat.{ℕ, zero, suc, _+_}
-use mathlib.Core.Bool.{Bool, cond, _||_}
-use mathlib.Core.Bool.{false}
-use mathlib.Core.List.{List, [], _∷_}
+use mathlib.Core.Bool.{Bool, true, false, cond, _||_}
+use mathlib.Core.List.{List, [], _∷_, _++_, List·Mem}
 use mathlib.Core.Option.{Option, none, some}
+use mathlib.Core.Path.{_≡_}
 use lib.Dec.{eqb}
 
 -- n numbers, from `from` on: numbers 1 3 is 1 ∷ 2 ∷ 3 ∷ []
@@ -45,6 +45,14 @@ module _ {A : Type 0} where
   unfoldable pub firstOf : (A → Bool) → List A → Option A
   firstOf test [] = none
   firstOf test (x ∷ xs) = let rest = firstOf test xs in cond (test x) (some x) rest
+
+  -- x stands in the list and passes the test, and no entry before it does
+  pub record First (test : A → Bool) (xs : List A) (x : A) : Type 0 where
+    pub before : List A
+    pub after : List A
+    pub split : xs ≡ before ++ (x ∷ after)
+    pub passes : test x ≡ true
+    pub none-before : (e : A) → List·Mem e before → test e ≡ false
 
 -- the word stands in the list
 unfoldable pub isIn : ℕ → List ℕ → Bool

@@ -2,11 +2,11 @@
 -- "The lowest broken number is answered, with the smallest p that breaks it. A rule is tried only if all lower ones hold for
 -- every partition."
 use Prim.Native.Nat.{ℕ, suc}
-use mathlib.Core.Bool.{Bool, true, false, cond}
+use mathlib.Core.Bool.{Bool, false, cond}
 use mathlib.Core.List.{List, [], _∷_, _++_, List·Mem}
 use mathlib.Core.Option.{Option, none, some, Option·elim}
 use mathlib.Core.Path.{_≡_}
-use Rattle.pdi_spec.specs.Lists.{numbers, firstOf}
+use Rattle.pdi_spec.specs.Lists.{numbers, firstOf, First}
 use Rattle.pdi_spec.specs.File.{File, partitions, partitionNumbers}
 
 -- A row of the table: its number, the p's that it is tried at, in their order, and whether it is broken at one of them.
@@ -53,12 +53,8 @@ unfoldable pub Keeps : List Rule → File → Type 0
 Keeps rs f = (r : Rule) → List·Mem r rs → Kept r f
 
 -- the rule is broken at p, and at no p that it is tried at before
-pub record FirstBroken (r : Rule) (f : File) (p : ℕ) : Type 0 where
-  pub before : List ℕ
-  pub after : List ℕ
-  pub tried-so : r .tried f ≡ before ++ (p ∷ after)
-  pub breaks : r .broken f p ≡ true
-  pub not-before : (e : ℕ) → List·Mem e before → r .broken f e ≡ false
+abbrev pub FirstBroken : Rule → File → ℕ → Type 0
+FirstBroken r f p = First (r .broken f) (r .tried f) p
 
 -- a rule of this number stands in the list and is first broken at p, and every rule before it is kept
 pub record FirstRefusal (rs : List Rule) (f : File) (number p : ℕ) : Type 0 where

@@ -1,16 +1,16 @@
 -- The lists that rule 18 compares, joined partition by partition, as loops make them. Assumes nothing.
-use Prim.Native.Nat.{ℕ, zero, suc, _+_}
+use Prim.Native.Nat.{ℕ, _+_}
 use native.Mathlib.Nat.{add-comm}
 use native.Mathlib.Numerals.{add-one}
-use native.Mathlib.Omega.{arith}
 use mathlib.Core.Bool.{cond}
-use mathlib.Core.List.{List, [], _∷_, _++_, map, flatMap, append-nil, append-assoc}
+use mathlib.Core.List.{List, [], _∷_, _++_, map, flatMap, append-assoc}
 use mathlib.Core.Path.{_≡_, refl, sym, _∙_, ap}
 use lib.Dec.{eqb}
 use Rattle.pdi_spec.specs.File.{File, isFull, partitions, header, hashBlock}
 use Rattle.pdi_spec.specs.Headers.{Table}
 use Rattle.pdi_spec.specs.Lists.{numbers}
 use Rattle.pdi_spec.specs.Ranges.{Range, bootRange, tableWithOptional, imageHeaders, headerRanges, blockRanges, hashBlocks}
+use Rattle.pdi_spec.specs.Laws.Lists.{flatMap-numbers}
 use Rattle.headers.specs.Headers.{blockOf, tableOf}
 use Rattle.headers.specs.declared.table.TableHeader.{TableHeader}
 use Rattle.chain_rules.specs.Chain.{Chain, fileOf}
@@ -47,22 +47,10 @@ unfolding flatMap
 made-joined f [] = refl
 made-joined f (x ∷ xs) = ap (λ (l : List _). f x ∷ l) (made-joined f xs)
 
-module _ {A : Type 0} (f : ℕ → List A) where
-  joined-last : (a n : ℕ) → flatMap f (numbers a (suc n)) ≡ flatMap f (numbers a n) ++ f (a + n)
-  unfolding numbers flatMap
-  joined-last a zero = append-nil (f a) ∙ ap f {x = a} {y = a + 0} (omega arith)
-  joined-last a (suc n) =
-      ap (λ (l : List A). f a ++ l)
-      (joined-last (suc a) n ∙ ap (λ (k : ℕ). flatMap f (numbers (suc a) n) ++ f k) {x = suc a + n} {y = a + suc n} (omega arith))
-      ∙ sym (append-assoc (f a) (flatMap f (numbers (suc a) n)) (f (a + suc n)))
-
-  pub joined-more : (a n : ℕ) → flatMap f (numbers a (n + 1)) ≡ flatMap f (numbers a n) ++ f (a + n)
-  joined-more a n = rw add-one (joined-last a n)
-
 -- the ranges of one partition more
 pub partition-more : {starts sizes starts′ sizes′ : List ℕ} {n n′ : ℕ} {ys : List Range} (xs : List Range) (f : ℕ → List Range) (i : ℕ)
     → Filled starts sizes n (xs ++ flatMap f (numbers 1 i)) → Filled starts′ sizes′ n′ (rangesIn starts sizes n ++ ys) → ys ≡ f (i + 1)
     → Filled starts′ sizes′ n′ (xs ++ flatMap f (numbers 1 (i + 1)))
 partition-more {ys = ys} xs f i was now e =
     let all = and-then ys was now in
-    rw (joined-more f 1 i, add-comm 1 i, ← append-assoc, ← e) all
+    rw (flatMap-numbers f 1 i, add-comm 1 i, ← append-assoc, ← e) all

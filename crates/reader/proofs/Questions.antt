@@ -1,4 +1,4 @@
--- From the core's promise to the answers of the questions. Assumes nothing.
+-- From the core's promise to the answers of a question, given by its own rules of the image, `own`. Assumes nothing.
 use Prim.Native.Nat.{ℕ, _+_, _-_, _*_, _≤_, _<_}
 use native.Mathlib.Omega.{arith}
 use mathlib.Core.Bool.{false}
@@ -7,24 +7,24 @@ use mathlib.Core.Logic.{_⊎_, inl, inr}
 use mathlib.Core.Path.{_≡_, refl, sym, _∙_, ap}
 use lib.Dec.{ltb}
 use lib.ListN.{length, take, drop}
-use Rattle.pdi_spec.specs.Answers.{asked, answer, billed, readBy, rowsBy, billBy, bodyBy, readAnswer, readRows, billAnswer, bodyAnswer, cut}
+use Rattle.pdi_spec.specs.Answers.{asked, answer, billed, readBy, rowsBy, billBy, bodyBy, cut}
 use Rattle.pdi_spec.specs.File.{File, partitions, header}
 use Rattle.pdi_spec.specs.Headers.{Header}
 use Rattle.pdi_spec.specs.Limits.{bufferNumbers, headWidth, rowWidth}
 use Rattle.pdi_spec.specs.Ranges.{Range, body, bodyOf}
-use Rattle.pdi_spec.specs.RuleList.{rule1, plainRules, withoutBuffer, withBuffer, withRows}
+use Rattle.pdi_spec.specs.RuleList.{rule1, withoutBuffer, withBuffer, withRows}
 use Rattle.pdi_spec.specs.Rules.{bufferTooShort}
-use Rattle.pdi_spec.specs.Verdict.{once, accepted, refused, verdict}
+use Rattle.pdi_spec.specs.Supported.{Supported}
+use Rattle.pdi_spec.specs.Verdict.{Rule, once, accepted, refused, verdict}
 use Rattle.pdi_spec.specs.Laws.Answers.{bill-accepted, bill-refused, body-accepted, body-none, body-refused}
 use Rattle.pdi_spec.specs.Laws.Kept.{lengths-stated, span-stated}
-use Rattle.pdi_spec.specs.Laws.Plain.{plain, buffer-small}
-use Rattle.pdi_spec.specs.Laws.Refusals.{buffer-accepts}
+use Rattle.pdi_spec.specs.Laws.Refusals.{buffer-accepts, refusal-below, refusal-p}
 use Rattle.pdi_spec.specs.Laws.Rows.{after-accepted, after-refused}
 use Rattle.pdi_spec.specs.Laws.Verdict.{accepted-kept, verdict-after}
 use Rattle.headers.specs.declared.table.TableHeader.{TableHeader}
 use Rattle.chain_rules.specs.Chain.{fileOf}
 use Rattle.chain_rules.proofs.Counts.{counted}
-use Rattle.core.specs.Readings.{coreRules, outcomeOf, Held, Told}
+use Rattle.core.specs.Readings.{coreRules, outcomeOf, Held, CoreAnswer}
 use Rattle.rows.specs.Rows.{overwritten}
 use Rattle.core.specs.declared.Reading.{Reading}
 use Rattle.core.proofs.Stages.{once-kept}
@@ -32,37 +32,37 @@ use Rattle.core.proofs.Stages.{once-kept}
 -- ---- the lists
 
 -- without a buffer rule 2 is never broken
-without-buffer : (f : File) → verdict (coreRules false plainRules) f ≡ verdict (withoutBuffer plainRules) f
+without-buffer : (own : List Rule) (f : File) → verdict (coreRules false own) f ≡ verdict (withoutBuffer own) f
 unfolding coreRules withoutBuffer
-without-buffer f = verdict-after rule1 (once 2 (λ g. false) ∷ plainRules) plainRules f (once-kept 2 (λ g. false) plainRules f refl)
+without-buffer own f = verdict-after rule1 (once 2 (λ g. false) ∷ own) own f (once-kept 2 (λ g. false) own f refl)
 
 -- with one it is broken where the buffer is short
-pub with-rows : (n : ℕ) (f : File) → verdict (coreRules (ltb n bufferNumbers) plainRules) f ≡ verdict (withRows n plainRules) f
+with-rows : (own : List Rule) (n : ℕ) (f : File) → verdict (coreRules (ltb n bufferNumbers) own) f ≡ verdict (withRows n own) f
 unfolding coreRules withRows withBuffer bufferTooShort
-with-rows n f = refl
+with-rows own n f = refl
 
 -- ---- what the core's answer tells
 
-module _ (bytes : List ℕ) (place : ℕ) {offsets entries : List ℕ} {r : Reading} (told : Told bytes place
-    (coreRules false plainRules) offsets entries r) where
+module _ {own : List Rule} (s : Supported own) (bytes : List ℕ) (place : ℕ) {offsets entries : List ℕ} {r : Reading}
+    (told : CoreAnswer bytes place (coreRules false own) offsets entries r) where
   abbrev f : File
   f = asked bytes place
 
-  refused-is : {k p : ℕ} → r ≡ Reading.Refused k p → verdict (withoutBuffer plainRules) f ≡ refused k p
+  refused-is : {k p : ℕ} → r ≡ Reading.Refused k p → verdict (withoutBuffer own) f ≡ refused k p
   unfolding outcomeOf
-  refused-is e = sym (without-buffer f) ∙ sym (told .told) ∙ ap outcomeOf e
+  refused-is e = sym (without-buffer own f) ∙ sym (told .told) ∙ ap outcomeOf e
 
-  accepted-is : {t : TableHeader} {bill : ℕ} → r ≡ Reading.Accepted t bill → verdict (withoutBuffer plainRules) f ≡ accepted
+  accepted-is : {t : TableHeader} {bill : ℕ} → r ≡ Reading.Accepted t bill → verdict (withoutBuffer own) f ≡ accepted
   unfolding outcomeOf
-  accepted-is e = sym (without-buffer f) ∙ sym (told .told) ∙ ap outcomeOf e
+  accepted-is e = sym (without-buffer own f) ∙ sym (told .told) ∙ ap outcomeOf e
 
-  pub refused-bill : {k p : ℕ} → r ≡ Reading.Refused k p → 0 ≡ billAnswer bytes place
+  pub refused-bill : {k p : ℕ} → r ≡ Reading.Refused k p → 0 ≡ billBy own bytes place
   unfolding billBy
-  refused-bill {k} {p} e = sym (bill-refused (withoutBuffer plainRules) f k p (refused-is e))
+  refused-bill {k} {p} e = sym (bill-refused (withoutBuffer own) f k p (refused-is e))
 
-  pub refused-body : {k p : ℕ} → r ≡ Reading.Refused k p → (q : ℕ) → [] ≡ bodyAnswer bytes place q
+  pub refused-body : {k p : ℕ} → r ≡ Reading.Refused k p → (q : ℕ) → [] ≡ bodyBy own bytes place q
   unfolding bodyBy
-  refused-body {k} {p} e q = sym (body-refused (withoutBuffer plainRules) f k p (refused-is e) q)
+  refused-body {k} {p} e q = sym (body-refused (withoutBuffer own) f k p (refused-is e) q)
 
   module _ {t : TableHeader} {bill : ℕ} (e : r ≡ Reading.Accepted t bill) where
     abbrev held : Held bytes place t bill offsets entries
@@ -74,13 +74,13 @@ module _ (bytes : List ℕ) (place : ℕ) {offsets entries : List ℕ} {r : Read
     count-is : t .partitions ≡ partitions f
     count-is = counted (held .chain) ∙ ap partitions same-file
 
-    pub accepted-bill : bill ≡ billAnswer bytes place
+    pub accepted-bill : bill ≡ billBy own bytes place
     unfolding billBy
-    accepted-bill = held .billed-is ∙ ap billed same-file ∙ sym (bill-accepted (withoutBuffer plainRules) f (accepted-is e))
+    accepted-bill = held .billed-is ∙ ap billed same-file ∙ sym (bill-accepted (withoutBuffer own) f (accepted-is e))
 
-    pub no-body : (p : ℕ) → (p < 1) ⊎ (t .partitions < p) → [] ≡ bodyAnswer bytes place p
+    pub no-body : (p : ℕ) → (p < 1) ⊎ (t .partitions < p) → [] ≡ bodyBy own bytes place p
     unfolding bodyBy
-    no-body p h = sym (body-none (withoutBuffer plainRules) f p (go h))
+    no-body p h = sym (body-none (withoutBuffer own) f p (go h))
       where
         go : (p < 1) ⊎ (t .partitions < p) → (p < 1) ⊎ (partitions f < p)
         go (inl l) = inl l
@@ -100,36 +100,36 @@ module _ (bytes : List ℕ) (place : ℕ) {offsets entries : List ℕ} {r : Read
       unfolding withoutBuffer body
       ends =
           let high′ : p ≤ partitions f = omega (arith, count-is) in
-          let span = span-stated f p low high′ (accepted-kept (withoutBuffer plainRules) f (accepted-is e)
-          (mem-cons-of-mem rule1 (plain .spans))) in
-          let order = lengths-stated f p low high′ (accepted-kept (withoutBuffer plainRules) f (accepted-is e)
-          (mem-cons-of-mem rule1 (plain .lengths))) .2 in
+          let span = span-stated f p low high′ (accepted-kept (withoutBuffer own) f (accepted-is e)
+          (mem-cons-of-mem rule1 (s .spans))) in
+          let order = lengths-stated f p low high′ (accepted-kept (withoutBuffer own) f (accepted-is e)
+          (mem-cons-of-mem rule1 (s .lengths))) .2 in
           omega (arith, span, order, ap (λ (r : Range). r .start) is-body, ap (λ (r : Range). r .size) is-body)
 
-      pub part-is : take (b .start + b .size - b .start) (drop (b .start) bytes) ≡ bodyAnswer bytes place p
+      pub part-is : take (b .start + b .size - b .start) (drop (b .start) bytes) ≡ bodyBy own bytes place p
       unfolding bodyBy cut
       part-is =
           let size : b .start + b .size - b .start ≡ b .size = omega arith in
           ap (λ (n : ℕ). take n (drop (b .start) bytes)) size
           ∙ ap (λ (r : Range). cut r bytes) is-body
-          ∙ sym (body-accepted (withoutBuffer plainRules) f (accepted-is e) p low (omega (arith, count-is)))
+          ∙ sym (body-accepted (withoutBuffer own) f (accepted-is e) p low (omega (arith, count-is)))
 
 -- ---- the same of read, with a row buffer
 
-module _ (bytes : List ℕ) (place : ℕ) (rows : List ℕ) {offsets entries : List ℕ} {r : Reading}
-    (told : Told bytes place (coreRules (ltb (length rows) bufferNumbers) plainRules) offsets entries r) where
+module _ {own : List Rule} (s : Supported own) (bytes : List ℕ) (place : ℕ) (rows : List ℕ) {offsets entries : List ℕ} {r : Reading}
+    (told : CoreAnswer bytes place (coreRules (ltb (length rows) bufferNumbers) own) offsets entries r) where
   abbrev g : File
   g = asked bytes place
 
-  is-verdict : outcomeOf r ≡ verdict (withRows (length rows) plainRules) g
-  is-verdict = told .told ∙ with-rows (length rows) g
+  is-verdict : outcomeOf r ≡ verdict (withRows (length rows) own) g
+  is-verdict = told .told ∙ with-rows own (length rows) g
 
-  pub read-answer : answer (outcomeOf r) ≡ readAnswer bytes place rows
+  pub read-answer : answer (outcomeOf r) ≡ readBy own bytes place rows
   unfolding readBy
   read-answer = ap answer is-verdict
 
   module _ {k p : ℕ} (e : r ≡ Reading.Refused k p) where
-    read-refused : verdict (withRows (length rows) plainRules) g ≡ refused k p
+    read-refused : verdict (withRows (length rows) own) g ≡ refused k p
     unfolding outcomeOf
     read-refused = sym is-verdict ∙ ap outcomeOf e
 
@@ -137,19 +137,20 @@ module _ (bytes : List ℕ) (place : ℕ) (rows : List ℕ) {offsets entries : L
     pub small : answer (outcomeOf r) < 0x1_0000_0000
     unfolding withRows answer outcomeOf
     small =
-        let s = buffer-small bufferNumbers (length rows) g k p read-refused in
-        omega (arith, ap (λ (x : Reading). answer (outcomeOf x)) e, s .0, s .1)
+        let number = refusal-below s bufferNumbers (length rows) g k p read-refused in
+        let partition = refusal-p s bufferNumbers (length rows) g k p read-refused in
+        omega (arith, ap (λ (x : Reading). answer (outcomeOf x)) e, number, partition)
 
-    pub refused-rows : rows ≡ readRows bytes place rows
+    pub refused-rows : rows ≡ rowsBy own bytes place rows
     unfolding rowsBy
-    refused-rows = sym (after-refused (withRows (length rows) plainRules) g rows k p read-refused)
+    refused-rows = sym (after-refused (withRows (length rows) own) g rows k p read-refused)
 
   module _ {t : TableHeader} {bill : ℕ} (e : r ≡ Reading.Accepted t bill) where
-    read-accepted : verdict (withRows (length rows) plainRules) g ≡ accepted
+    read-accepted : verdict (withRows (length rows) own) g ≡ accepted
     unfolding outcomeOf
     read-accepted = sym is-verdict ∙ ap outcomeOf e
 
-    pub accepted-answer : 0 ≡ readAnswer bytes place rows
+    pub accepted-answer : 0 ≡ readBy own bytes place rows
     unfolding readBy answer
     accepted-answer = sym (ap answer read-accepted)
 
@@ -157,14 +158,14 @@ module _ (bytes : List ℕ) (place : ℕ) (rows : List ℕ) {offsets entries : L
     pub room : headWidth + rowWidth * t .partitions ≤ length rows
     unfolding withRows
     room =
-        let serves = buffer-accepts bufferNumbers (length rows) plainRules g .0 read-accepted .0 in
+        let serves = buffer-accepts bufferNumbers (length rows) own g .0 read-accepted .0 in
         omega (arith, serves, told .held t bill e .chain .few)
 
-    pub accepted-rows : {after : List ℕ} → after ≡ overwritten (fileOf bytes t) rows → after ≡ readRows bytes place rows
+    pub accepted-rows : {after : List ℕ} → after ≡ overwritten (fileOf bytes t) rows → after ≡ rowsBy own bytes place rows
     unfolding rowsBy overwritten
     accepted-rows w =
         w ∙ ap (λ (q : ℕ). overwritten (asked bytes q) rows) (told .held t bill e .at-place)
-        ∙ sym (after-accepted (withRows (length rows) plainRules) g rows read-accepted)
+        ∙ sym (after-accepted (withRows (length rows) own) g rows read-accepted)
 
 -- the part behind the last byte is empty
 pub behind : (bytes : List ℕ) → take (length bytes - length bytes) (drop (length bytes) bytes) ≡ []

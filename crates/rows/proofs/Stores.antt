@@ -2,7 +2,7 @@
 use Prim.Native.Nat.{ℕ, suc, _+_, _*_, _≤_, _<_}
 use native.Mathlib.Numerals.{add-one}
 use native.Mathlib.Omega.{arith}
-use mathlib.Core.List.{List, [], _∷_, _++_, flatMap, append-assoc, append-nil}
+use mathlib.Core.List.{List, [], _∷_, _++_, flatMap}
 use mathlib.Core.Path.{_≡_, refl, sym, _∙_, ap, ap₂}
 use lib.ListN.{length, take, drop, set, getD}
 use lib.Seq.{sets, sets-eq, take-suc, length-take-le}
@@ -12,13 +12,8 @@ use Rattle.pdi_spec.specs.File.{File, table, partitions, partitionNumbers, head
 use Rattle.pdi_spec.specs.Ranges.{Range, span, spanOf, loadRange, loadRangeOf}
 use Rattle.pdi_spec.specs.Answers.{Row, rowNumbers, rowOf, hashEntry, billed, head, headAndRows}
 use Rattle.pdi_spec.specs.Limits.{headWidth, rowWidth}
-use Rattle.pdi_spec.specs.Laws.Lists.{flatMap-length, numbers-length, numbers-more}
+use Rattle.pdi_spec.specs.Laws.Lists.{flatMap-length, flatMap-numbers, numbers-length, sets-append}
 use Rattle.rows.specs.Rows.{firstRows, overwritten}
-
--- a run, and then another right after it
-sets-append : (l xs ys : List ℕ) (i k : ℕ) → k ≡ i + length xs → sets (sets l i xs) k ys ≡ sets l i (xs ++ ys)
-sets-append l [] ys i k e = let z : k ≡ i = omega arith in ap (λ (j : ℕ). sets l j ys) z
-sets-append l (x ∷ xs) ys i k e = sets-append (set l i x) xs ys (suc i) k (omega arith)
 
 -- one store more of a row
 pub store-next : (l row : List ℕ) (at k : ℕ) → k < length row
@@ -46,24 +41,12 @@ rows-length f n =
     flatMap-length rowWidth (λ (p : ℕ). rowNumbers (rowOf f p)) (λ p. row-width (rowOf f p)) (numbers 1 n)
     ∙ ap (λ (k : ℕ). rowWidth * k) (numbers-length 1 n)
 
--- the rows of a list, and of one partition after it
-rows-then : (f : File) (ps : List ℕ) (q : ℕ)
-    → flatMap (λ (p : ℕ). rowNumbers (rowOf f p)) (ps ++ (q ∷ []))
-    ≡ flatMap (λ (p : ℕ). rowNumbers (rowOf f p)) ps ++ rowNumbers (rowOf f q)
-unfolding flatMap
-rows-then f [] q = append-nil (rowNumbers (rowOf f q))
-rows-then f (p ∷ ps) q =
-    ap (λ (l : List ℕ). rowNumbers (rowOf f p) ++ l) (rows-then f ps q)
-    ∙ sym (append-assoc (rowNumbers (rowOf f p)) (flatMap (λ (p : ℕ). rowNumbers (rowOf f p)) ps) (rowNumbers (rowOf f q)))
-
 -- one partition more
 rows-more : (f : File) (i : ℕ) → firstRows f (i + 1) ≡ firstRows f i ++ rowNumbers (rowOf f (i + 1))
 unfolding firstRows
 rows-more f i =
-    ap (flatMap (λ (p : ℕ). rowNumbers (rowOf f p))) (ap (numbers 1) (add-one i) ∙ numbers-more 1 i)
-    ∙ rows-then f (numbers 1 i) (1 + i)
-    ∙ ap (λ (p : ℕ). flatMap (λ (q : ℕ). rowNumbers (rowOf f q))
-    (numbers 1 i) ++ rowNumbers (rowOf f p)) {x = 1 + i} {y = i + 1} (omega arith)
+    let rows : ℕ → List ℕ = λ p. rowNumbers (rowOf f p) in
+    flatMap-numbers rows 1 i ∙ ap (λ (p : ℕ). flatMap rows (numbers 1 i) ++ rows p) {x = 1 + i} {y = i + 1} (omega arith)
 
 -- a turn of the loop: the first i rows are stored, and then the next one
 pub turn : (f : File) (start : List ℕ) (i : ℕ) {rows row after : List ℕ} → rows ≡ sets start headWidth (firstRows f i)

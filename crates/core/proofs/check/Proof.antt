@@ -1,16 +1,26 @@
 -- `core::check` meets its contract: each way out says what the whole list of rules says (Outcomes.antt). Assumes nothing.
 use Prim.Native.Nat.{ℕ}
 use borrow.Author.Needs.{needs}
+use mathlib.Core.List.{List, _++_}
 use mathlib.Core.Path.{_≡_, sym, _∙_, ap}
-use Rattle.pdi_spec.specs.RuleList.{plainRules}
+use Rattle.pdi_spec.specs.RuleList.{partitionRules, clashRules, plainRules, tableRules}
 use Rattle.pdi_spec.specs.Answers.{asked}
 use Rattle.pdi_spec.specs.File.{File}
-use Rattle.pdi_spec.specs.Verdict.{refused, verdict}
+use Rattle.pdi_spec.specs.Verdict.{Rule, refused, verdict}
 use Rattle.core.specs.Readings.{coreRules, numberIn}
 use Rattle.pdi_spec.specs.Laws.Calls.{nothing}
 use Rattle.core.proofs.Outcomes.{refused-told, accepted-told, too-long, too-short, passes, table-refused, TableKept, table-checked, all-kept, one-refused}
+use Rattle.core.proofs.Stages.{plain-split}
 use Rattle.core.proofs.check.Statement.{statement}
 use Rattle.core.proofs.check.Tie as tie
+
+-- the rules after the table's
+abbrev later : List Rule
+later = partitionRules ++ clashRules
+
+-- the list is the table's rules and these
+is-plain : (f : File) → verdict (tableRules ++ later) f ≡ verdict plainRules f
+is-plain f = ap (λ (rs : List Rule). verdict rs f) plain-split
 
 returns : tie.Need-returns
 returns c =
@@ -30,7 +40,8 @@ returns-3 c =
     let first = c .before .enum-told .given .1 in
     refused-told
     (ap (λ (k : ℕ). refused k 0) (c .number-in .ensures ∙ ap numberIn first)
-    ∙ table-refused _ (sym (c .before .before .before .check-table .ensures) ∙ first)
+    ∙ table-refused later _ (sym (c .before .before .before .check-table .ensures) ∙ first)
+    ∙ is-plain _
     ∙ passes (a .image .now) (a .place) (a .short) plainRules (d .before .if1 .left) (d .if2 .left))
 
 abbrev entry : tie.After-first → tie.Start
@@ -44,10 +55,12 @@ checked : (c : tie.After-first) → TableKept (entry c .args .image .now) (entry
 checked c = table-checked _ _ (sym (c .before .before .check-table .ensures) ∙ c .first .given .1)
 
 -- past rules 1 and 2, the list is the image's own
-left : (c : tie.After-first) → verdict plainRules (file-of c) ≡ verdict (coreRules (entry c .args .short) plainRules) (file-of c)
+left : (c : tie.After-first) → verdict (tableRules ++ later) (file-of c)
+    ≡ verdict (coreRules (entry c .args .short) plainRules) (file-of c)
 left c =
     let a = entry c .args in
-    passes (a .image .now) (a .place) (a .short) plainRules (c .before .before .before .before .if1 .left)
+    is-plain _
+    ∙ passes (a .image .now) (a .place) (a .short) plainRules (c .before .before .before .before .if1 .left)
     (c .before .before .before .if2 .left)
 
 check-partitions-requires : tie.Need-check-partitions-requires
@@ -65,14 +78,14 @@ returns-4 c =
     let p = c .before .before .before .before .check-partitions .ensures in
     let first = c .before .before .before .before .before .before .before .before in
     let k = checked first in
-    accepted-told (all-kept _ _ k (p .told) kept ∙ left first)
+    accepted-told (all-kept _ _ later k (p .told) kept ∙ left first)
     (record { at-place = k .at-place; chain = p .chain kept; entries-are = p .entries-are kept; billed-is = c .billed .ensures })
 
 returns-5 : tie.Need-returns-5
 returns-5 c =
     let p = c .before .before .before .check-partitions .ensures in
     let first = c .before .before .before .before .before .before .before in
-    refused-told (one-refused _ _ (checked first) (p .told) (c .before .later .given .1) ∙ left first)
+    refused-told (one-refused _ _ later (checked first) (p .told) (c .before .later .given .1) ∙ left first)
 
 pub check-spec : {M : Type 1} → statement M
 check-spec =

@@ -12,7 +12,7 @@ use Rattle.headers.specs.declared.table.TableHeader.{TableHeader}
 use Rattle.chain_rules.specs.Answers.{answerOf}
 use Rattle.chain_rules.specs.Chain.{fileOf}
 use Rattle.chain_rules.specs.declared.Answer.{Answer}
-use Rattle.core.specs.Readings.{Partitions}
+use Rattle.core.specs.Readings.{PartitionsAnswer}
 use Rattle.core.proofs.Stages.{stops, goes-on, never, partitions-split}
 use Rattle.core.proofs.check_partitions.Statement.{statement}
 use Rattle.core.proofs.check_partitions.Tie as tie
@@ -69,7 +69,8 @@ left-19 c = goes-on _ _ (c .before .before .check-stored .ensures) (c .enum-told
 
 -- a refusal hands nothing on
 refusal : {bytes : List ℕ} {t : TableHeader} {offsets entries : List ℕ} {r : Answer} {k p : ℕ} → r ≡ Answer.Refused k p
-    → r ≡ answerOf (verdict (partitionRules ++ clashRules) (fileOf bytes t)) → Partitions bytes t offsets entries r
+    → r ≡ answerOf (verdict (partitionRules ++ clashRules) (fileOf bytes t))
+    → PartitionsAnswer bytes t (partitionRules ++ clashRules) offsets entries r
 refusal e told = record { told = told; chain = λ q. absurd (never e q); entries-are = λ q. absurd (never e q) }
 
 returns : tie.Need-returns

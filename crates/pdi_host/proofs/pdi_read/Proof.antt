@@ -2,6 +2,7 @@
 use borrow.Author.Needs.{needs}
 use native.Mathlib.Omega.{arith}
 use mathlib.Core.Path.{refl}
+use Rattle.pdi_spec.specs.Laws.Plain.{plain}
 use Rattle.pdi_host.proofs.Rows.{numbers-few, short-answers, refused-answers, accepted-answers}
 use Rattle.pdi_host.proofs.pdi_read.Statement.{statement}
 use Rattle.pdi_host.proofs.pdi_read.Tie as tie
@@ -10,7 +11,7 @@ too-short-requires : tie.Need-too-short-requires
 too-short-requires c κs = search needs
 
 returns : tie.Need-returns
-returns c = short-answers _ _ _ (omega arith) (c .too-short .ensures)
+returns c = short-answers plain _ _ _ (omega arith) (c .too-short .ensures)
 
 slice-aggregate-read : tie.Need-slice-aggregate-read
 slice-aggregate-read c = search needs
@@ -27,17 +28,17 @@ slice-aggregate-put-numbers c = search needs
 mul-put-numbers : tie.Need-mul-put-numbers
 mul-put-numbers c =
     let read = c .before .before .before .before .read .ensures in
-    omega (arith, numbers-few _ _ _ refl (read .0) (c .before .before .if2 .taken) (read .1) .1)
+    omega (arith, numbers-few plain _ _ _ refl (read .0) (c .before .before .if2 .taken) (read .1) .1)
 
 add-put-numbers : tie.Need-add-put-numbers
 add-put-numbers c =
     let read = c .before .before .before .before .read .ensures in
-    omega (arith, numbers-few _ _ _ refl (read .0) (c .before .before .if2 .taken) (read .1) .1)
+    omega (arith, numbers-few plain _ _ _ refl (read .0) (c .before .before .if2 .taken) (read .1) .1)
 
 put-numbers-requires : tie.Need-put-numbers-requires
 put-numbers-requires c κs =
     let read = c .before .before .before .before .read .ensures in
-    let few = numbers-few _ _ _ refl (read .0) (c .before .before .if2 .taken) (read .1) in
+    let few = numbers-few plain _ _ _ refl (read .0) (c .before .before .if2 .taken) (read .1) in
     (omega arith, omega arith)
 
 same-length : tie.Need-same-length
@@ -47,10 +48,10 @@ returns-2 : tie.Need-returns-2
 returns-2 c =
     let b = c .before .before .before .before .before in
     let read = b .before .before .read .ensures in
-    accepted-answers _ _ _ (omega arith) _ refl (read .0) (b .if2 .taken) (read .1) (c .before .before .put-numbers .ensures)
+    accepted-answers plain _ _ _ (omega arith) _ refl (read .0) (b .if2 .taken) (read .1) (c .before .before .put-numbers .ensures)
 
 returns-3 : tie.Need-returns-3
-returns-3 c = refused-answers _ _ _ (omega arith) _ refl (c .before .before .read .ensures .0) (c .if2 .left)
+returns-3 c = refused-answers plain _ _ _ (omega arith) _ refl (c .before .before .read .ensures .0) (c .if2 .left)
 
 pub pdi-read-spec : {M : Type 1} → statement M
 pdi-read-spec =

@@ -8,8 +8,8 @@ use mathlib.Core.Logic.{_↔_, ⊎-elim, Or·elim}
 use native.Mathlib.Bridge.{le-prop}
 use mathlib.Core.Option.{Option, none, some}
 use mathlib.Core.Path.{_≡_, refl, sym, _∙_, ap}
-use Rattle.pdi_spec.specs.{Lists.numbers, Lists.firstOf, File.File, File.partitions, File.partitionNumbers, File.header, Rules.storedRangesClash, Rules.loadRangesClash, Rules.loadAddressBad, RuleList.ofHeader, RuleList.tableRules, RuleList.headerRules, RuleList.partitionRules, RuleList.readingRules, Twice.PositionTwice, Twice.MeetsEarlier, Twice.AddressTwice, Twice.SmallestMeeting, Verdict.Rule, Verdict.once, Verdict.each, Verdict.eachAndTable, Verdict.refused, Verdict.verdict, Verdict.Kept, Verdict.Keeps}
-use Rattle.pdi_spec.specs.Laws.{Tests.either, Tests.never-both, Tests.is-not-true, Tests.mem-numbers, Tests.numbers-mem, Firsts.First, Firsts.first-mem, Firsts.first-none, Firsts.first-some, Firsts.first-smallest, Firsts.smallest-first, Verdict.verdict-broken, Verdict.verdict-kept, Verdict.verdict-skip, Verdict.no-such-number, Verdict.refused-number, Verdict.refused-p, Kept.kept-each, Inside.reading-kept, Clash.twice-clash, Clash.clash-twice, Clash.meets-clash, Clash.clash-meets}
+use Rattle.pdi_spec.specs.{Lists.numbers, Lists.firstOf, Lists.First, File.File, File.partitions, File.partitionNumbers, File.header, Rules.storedRangesClash, Rules.loadRangesClash, Rules.loadAddressBad, RuleList.ofHeader, RuleList.tableRules, RuleList.headerRules, RuleList.partitionRules, RuleList.readingRules, Twice.PositionTwice, Twice.MeetsEarlier, Twice.AddressTwice, Twice.SmallestMeeting, Verdict.Rule, Verdict.once, Verdict.each, Verdict.eachAndTable, Verdict.refused, Verdict.verdict, Verdict.Kept, Verdict.Keeps}
+use Rattle.pdi_spec.specs.Laws.{Tests.either, Tests.never-both, Tests.is-not-true, Tests.mem-numbers, Tests.numbers-mem, Firsts.first-mem, Firsts.first-none, Firsts.first-some, Firsts.first-smallest, Firsts.smallest-first, Verdict.verdict-broken, Verdict.verdict-kept, Verdict.verdict-skip, Verdict.no-such-number, Verdict.refused-number, Verdict.refused-p, Kept.kept-each, Inside.reading-kept, Clash.twice-clash, Clash.clash-twice, Clash.meets-clash, Clash.clash-meets}
 
 module _ (f : File) (before after : List Rule) (kept : Keeps before f) (headers : Keeps readingRules f)
     (high : (r : Rule) → List·Mem r after → 19 < r .number) where

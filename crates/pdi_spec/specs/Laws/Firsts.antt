@@ -7,19 +7,11 @@ use mathlib.Core.List.{List, [], _∷_, _++_, List·Mem, mem-cons-self, mem-cons
 use mathlib.Core.Logic.{_⊎_, inl, inr, Or·elim}
 use mathlib.Core.Option.{none, some}
 use mathlib.Core.Path.{_≡_, refl, sym, _∙_, ap, subst}
-use Rattle.pdi_spec.specs.{Lists.numbers, Lists.firstOf}
+use Rattle.pdi_spec.specs.{Lists.numbers, Lists.firstOf, Lists.First}
 use Rattle.pdi_spec.specs.Laws.{Tests.either, Tests.mem-numbers, Tests.numbers-mem, Tests.numbers-ascending, Searches.found}
 
 pub some-not-none : {A : Type 0} {x : A} → some x ≡ none → ⊥
 some-not-none e = let z : _≡_ {A = ℕ} 0 1 = cc in omega arith
-
--- a list split at an entry: the entry passes, and none before it does
-pub record First {A : Type 0} (test : A → Bool) (xs : List A) (x : A) : Type 0 where
-  pub before : List A
-  pub after : List A
-  pub split : xs ≡ before ++ (x ∷ after)
-  pub passes : test x ≡ true
-  pub none-before : (e : A) → List·Mem e before → test e ≡ false
 
 -- the entry that a list is split at stands in it
 pub mem-split : {A : Type 0} {x : A} {xs : List A} (before after : List A) → xs ≡ before ++ (x ∷ after) → List·Mem x xs

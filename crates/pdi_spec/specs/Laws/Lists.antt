@@ -1,13 +1,15 @@
 -- Laws of lists in general, for the proofs of the other files: the entries that pass a test, and lists joined. Assumes nothing.
 use Prim.Native.Nat.{ℕ, zero, suc, _+_, _*_}
+use native.Mathlib.Numerals.{add-one}
 use native.Mathlib.Nat.{mul-zero, mul-suc}
 use native.Mathlib.Omega.{arith}
 use mathlib.Core.Bool.{Bool, true, false, cond}
-use mathlib.Core.List.{List, [], _∷_, _++_, flatMap, List·Mem, mem-cons-self, mem-cons-of-mem, mem-append, mem-append-left, mem-append-right, not-mem-nil, eq-or-mem-of-mem-cons, Sublistᴰ, Sublistᴰ·slnil, Sublistᴰ·cons, Sublistᴰ·cons-cons, Pairwise, Pairwise·nil, Pairwise·cons, List·Nodup, nodup-append, Disjoint}
+use mathlib.Core.List.{List, [], _∷_, _++_, flatMap, List·Mem, mem-cons-self, mem-cons-of-mem, mem-append, mem-append-left, mem-append-right, not-mem-nil, eq-or-mem-of-mem-cons, append-assoc, append-nil, Sublistᴰ, Sublistᴰ·slnil, Sublistᴰ·cons, Sublistᴰ·cons-cons, Pairwise, Pairwise·nil, Pairwise·cons, List·Nodup, nodup-append, Disjoint}
 use mathlib.Core.Logic.{∥∥₁-elim, ∥∥₁-map, ∥∥₁-prop, Or·elim}
 use mathlib.Core.HLevel.{⊥-prop}
 use mathlib.Core.Path.{_≡_, refl, sym, _∙_, ap, subst}
-use lib.ListN.{length, length-append}
+use lib.ListN.{length, length-append, set}
+use lib.Seq.{sets}
 use Rattle.pdi_spec.specs.{Lists.numbers, Lists.those}
 
 -- the entries that pass a test are some of the list, in its order
@@ -56,6 +58,11 @@ flatMap-length width f h [] = sym (mul-zero width)
 flatMap-length width f h (x ∷ xs) =
     length-append (f x) (flatMap f xs) ∙ omega (arith, h x, flatMap-length width f h xs, mul-suc width (length xs))
 
+-- what is stored right behind a run is stored with it
+pub sets-append : (l xs ys : List ℕ) (i k : ℕ) → k ≡ i + length xs → sets (sets l i xs) k ys ≡ sets l i (xs ++ ys)
+sets-append l [] ys i k e = let z : k ≡ i = omega arith in ap (λ (j : ℕ). sets l j ys) z
+sets-append l (x ∷ xs) ys i k e = sets-append (set l i x) xs ys (suc i) k (omega arith)
+
 -- one number more, at the end
 pub numbers-more : (a n : ℕ) → numbers a (suc n) ≡ numbers a n ++ ((a + n) ∷ [])
 unfolding numbers
@@ -68,6 +75,15 @@ pub numbers-length : (a n : ℕ) → length (numbers a n) ≡ n
 unfolding numbers
 numbers-length a zero = refl
 numbers-length a (suc n) = ap suc (numbers-length (suc a) n)
+
+-- lists joined, one for each entry, and then one entry more
+pub flatMap-more : {A B : Type 0} (f : A → List B) (xs : List A) (x : A) → flatMap f (xs ++ (x ∷ [])) ≡ flatMap f xs ++ f x
+unfolding flatMap
+flatMap-more f [] x = append-nil (f x)
+flatMap-more f (y ∷ ys) x = ap (λ (l : List _). f y ++ l) (flatMap-more f ys x) ∙ sym (append-assoc (f y) (flatMap f ys) (f x))
+
+pub flatMap-numbers : {B : Type 0} (f : ℕ → List B) (a n : ℕ) → flatMap f (numbers a (n + 1)) ≡ flatMap f (numbers a n) ++ f (a + n)
+flatMap-numbers f a n = rw add-one (ap (flatMap f) (numbers-more a n) ∙ flatMap-more f (numbers a n) (a + n))
 
 -- ---- what holds of every entry of a list, written out entry by entry
 

@@ -1,8 +1,8 @@
 -- Plain reading's own rules, 3 to 19: they are as Supported says, and their numbers and those of the lists of read, bill, body and the
 -- host. Assumes nothing.
-use Prim.Native.Nat.{ℕ, _≤_}
+use Prim.Native.Nat.{ℕ, _+_, _≤_, _<_}
 use native.Mathlib.Omega.{arith}
-use mathlib.Core.List.{List, [], _∷_, _++_, map, mem-map-of-mem}
+use mathlib.Core.List.{List, [], _∷_, _++_, map, List·Mem, mem-map-of-mem}
 use mathlib.Core.Path.{_≡_, refl, _∙_, ap}
 use Rattle.pdi_spec.specs.{Limits.mostPartitions, Limits.lastRule, Lists.numbers, Lists.firstOf, File.File, Verdict.Rule, Verdict.once, Verdict.each, Verdict.eachAndTable, Verdict.refused, Verdict.verdict, RuleList.rule1, RuleList.rule2, RuleList.rule18, RuleList.rule19, RuleList.tableRules, RuleList.headerRules, RuleList.partitionRules, RuleList.readingRules, RuleList.clashRules, RuleList.plainRules, RuleList.withoutBuffer, RuleList.withBuffer, Supported.WellTried, Supported.Supported}
 use Rattle.pdi_spec.specs.Laws.{Tests.mem-numbers, Lists.Every, Kept.by-number, Verdict.refusal-number, Refusals.well-once, Refusals.well-each, Refusals.well-with-table, Refusals.all-well, Refusals.with-room, Refusals.refusal-p}
@@ -36,6 +36,9 @@ plain-tried : Every WellTried plainRules
 unfolding plainRules readingRules tableRules partitionRules headerRules clashRules
 plain-tried = search (well-once, well-each, well-with-table)
 
+numbered : (r : Rule) → List·Mem r plainRules → (3 ≤ r .number) × (r .number < 3 + 17)
+numbered r m = mem-numbers 3 17 (rw plain-numbers at (mem-map-of-mem (λ (s : Rule). s .number) m))
+
 pub plain : Supported plainRules
 unfolding plainRules readingRules tableRules partitionRules headerRules clashRules firstOf once each eachAndTable
 plain =
@@ -47,7 +50,8 @@ plain =
       addresses = by-number 16 plainRules refl;
       stored = by-number 18 plainRules refl;
       loads = by-number 19 plainRules refl;
-      over-2 = λ r m. mem-numbers 3 17 (rw plain-numbers at (mem-map-of-mem (λ (s : Rule). s .number) m)) .0;
+      over-2 = λ r m. numbered r m .0;
+      below-64 = λ r m. omega (arith, numbered r m .1);
       well-tried = all-well plainRules plain-tried;
     }
 

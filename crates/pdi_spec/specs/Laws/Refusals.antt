@@ -126,6 +126,10 @@ module _ {own : List Rule} (s : Supported own) where
     unfolding withBuffer once
     positive = forall-mem-cons (λ r. le-prop) .1 (lit< tt, forall-mem-cons (λ r. le-prop) .1 (lit< tt, λ r m. omega (arith, s .over-2 r m)))
 
+    small : (r : Rule) → List·Mem r (withBuffer least have own) → r .number < 64
+    unfolding withBuffer once
+    small = forall-mem-cons (λ r. le-prop) .1 (lit< tt, forall-mem-cons (λ r. le-prop) .1 (lit< tt, s .below-64))
+
     pub well-tried : (r : Rule) → List·Mem r (withBuffer least have own) → WellTried r
     unfolding withBuffer
     well-tried = forall-mem-cons well-prop .1 (well-once _ _, forall-mem-cons well-prop .1 (well-once _ _, s .well-tried))
@@ -159,3 +163,7 @@ module _ {own : List Rule} (s : Supported own) where
         go (refused l x) q =
             let same : refused l x ≡ refused k p = sym (split ∙ ap (λ (o : Outcome). andThen o (verdict (s .later) f)) q) ∙ e in
             omega (arith, refused-p same, once-p first f (refl, (refl, tables-once f)) l x q)
+
+    -- and its number is below 64
+    pub refusal-below : (f : File) (k p : ℕ) → verdict (withBuffer least have own) f ≡ refused k p → k < 64
+    refusal-below f k p e = let t = refusal-rule _ f k p e in omega (arith, small (t .0) (t .1), t .2)

@@ -110,7 +110,6 @@ refused-first (r ∷ rs) f k p e = go (refused-first rs f k p) (firstOf (r .brok
         let same : refused (r .number) x ≡ refused k p = sym (verdict-step r rs f (some x) q) ∙ e in
         let same-number : r .number ≡ k = cc in
         let same-p : x ≡ p = cc in
-        let t = first-some (r .broken f) (r .tried f) p (q ∙ ap some same-p) in
         record {
           earlier = [];
           rule = r;
@@ -118,17 +117,16 @@ refused-first (r ∷ rs) f k p e = go (refused-first rs f k p) (firstOf (r .brok
           listed = refl;
           numbered = same-number;
           earlier-kept = λ s m. absurd (not-mem-nil m);
-          first-broken =
-              record { before = t .before; after = t .after; tried-so = t .split; breaks = t .passes; not-before = t .none-before };
+          first-broken = first-some (r .broken f) (r .tried f) p (q ∙ ap some same-p);
         }
 
 -- and where a rule is the first broken one, the list refuses with it
 pub first-refused : (rs : List Rule) (f : File) (k p : ℕ) → FirstRefusal rs f k p → verdict rs f ≡ refused k p
 first-refused rs f k p t =
     let b = t .first-broken in
-    let first = split-first (t .rule .broken f) (b .before) p (b .after) (b .breaks) (b .not-before) in
+    let first = split-first (t .rule .broken f) (b .before) p (b .after) (b .passes) (b .none-before) in
     rw (t .listed, verdict-skip (t .earlier) (t .rule ∷ t .later) f (t .earlier-kept), ← t .numbered)
-    (verdict-broken (t .rule) (t .later) f p (ap (firstOf (t .rule .broken f)) (b .tried-so) ∙ first))
+    (verdict-broken (t .rule) (t .later) f p (ap (firstOf (t .rule .broken f)) (b .split) ∙ first))
 
 -- ---- a refusal's number
 
@@ -138,7 +136,7 @@ pub refusal-rule : (rs : List Rule) (f : File) (k p : ℕ) → verdict rs f ≡ 
 refusal-rule rs f k p e =
     let t = refused-first rs f k p e in
     let b = t .first-broken in
-    (t .rule, mem-split (t .earlier) (t .later) (t .listed), t .numbered, mem-split (b .before) (b .after) (b .tried-so))
+    (t .rule, mem-split (t .earlier) (t .later) (t .listed), t .numbered, mem-split (b .before) (b .after) (b .split))
 
 -- so its number is one of the list's
 pub refusal-number : (rs : List Rule) (f : File) (k p : ℕ) → verdict rs f ≡ refused k p → List·Mem k (map (λ (r : Rule). r .number) rs)

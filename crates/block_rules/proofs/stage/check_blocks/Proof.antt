@@ -9,12 +9,12 @@ use Rattle.headers.specs.Headers.{blockOf}
 use Rattle.pdi_spec.specs.Laws.Calls.{nothing}
 use Rattle.chain_rules.specs.Chain.{fileOf}
 use Rattle.chain_rules.proofs.Counts.{counted}
-use Rattle.block_rules.proofs.Blocks.{Along, own-block, block-refused, block-checked, table-broken, starts, kept, broken, onward}
+use Rattle.block_rules.proofs.Blocks.{BlocksSoFar, own-block, block-refused, block-checked, table-broken, starts, kept, broken, onward}
 use Rattle.block_rules.proofs.stage.check_blocks.Statement.{statement}
 use Rattle.block_rules.proofs.stage.check_blocks.Tie as tie
 
 abbrev Inv-loop : tie.InvT-loop
-Inv-loop image table offsets entries₀ n i₀ entries i = (i ≤ n) × Along (fileOf image table) entries i
+Inv-loop image table offsets entries₀ n i₀ entries i = (i ≤ n) × BlocksSoFar (fileOf image table) entries i
 
 abbrev μ-loop : tie.MeasureT-loop
 μ-loop image table offsets entries₀ n i₀ entries i = n - i

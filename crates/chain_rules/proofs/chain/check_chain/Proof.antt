@@ -7,13 +7,13 @@ use Rattle.pdi_spec.specs.File.{partitions, headerAt}
 use Rattle.pdi_spec.specs.Headers.{Table}
 use Rattle.chain_rules.specs.Chain.{fileOf}
 use Rattle.chain_rules.specs.declared.chain.Link.{Link}
-use Rattle.chain_rules.proofs.Chains.{Along, starts, kept, broken, onward}
+use Rattle.chain_rules.proofs.Chains.{ChainSoFar, starts, kept, broken, onward}
 use Rattle.chain_rules.proofs.chain.check_chain.Statement.{statement}
 use Rattle.chain_rules.proofs.chain.check_chain.Tie as tie
 
 abbrev Inv-loop : tie.InvT-loop
 Inv-loop image t offsets₀ n at₀ i₀ offsets at i =
-    (i ≤ n) × Along (fileOf image t) offsets at i
+    (i ≤ n) × ChainSoFar (fileOf image t) offsets at i
 
 abbrev μ-loop : tie.MeasureT-loop
 μ-loop image t offsets₀ n at₀ i₀ offsets at i = n - i

@@ -5,6 +5,7 @@ use native.Mathlib.Omega.{arith}
 use mathlib.Core.Logic.{inl, inr}
 use mathlib.Core.Path.{_∙_}
 use lib.ListN.{length}
+use Rattle.pdi_spec.specs.Laws.Plain.{plain}
 use Rattle.reader.proofs.Questions.{behind, refused-body, no-body, ends, part-is}
 use Rattle.reader.proofs.bodies.body.Statement.{statement}
 use Rattle.reader.proofs.bodies.body.Tie as tie
@@ -30,7 +31,7 @@ part-result-end c = search needs
 returns : tie.Need-returns
 returns c =
     behind (c .before .before .before .before .before .before .before .args .image .now)
-    ∙ refused-body _ _ (c .before .before .before .check .ensures) (c .before .enum-told .given .1) _
+    ∙ refused-body plain _ _ (c .before .before .before .check .ensures) (c .before .enum-told .given .1) _
 
 cast-n : tie.Need-cast-n
 cast-n c = search needs
@@ -48,7 +49,7 @@ returns-2 : tie.Need-returns-2
 returns-2 c =
     let d = c .before .before .before .before in
     behind (c .before .before .before .before .before .before .before .before .before .before .args .image .now)
-    ∙ no-body _ _ (d .before .before .check .ensures) (d .reading .given .1) _ (inl (c .before .if1 .taken))
+    ∙ no-body plain _ _ (d .before .before .check .ensures) (d .reading .given .1) _ (inl (c .before .if1 .taken))
 
 sub-result-3 : tie.Need-sub-result-3
 sub-result-3 c = search needs
@@ -63,7 +64,7 @@ returns-3 : tie.Need-returns-3
 returns-3 c =
     let d = c .before .before .before .before .before in
     behind (c .before .before .before .before .before .before .before .before .before .before .before .args .image .now)
-    ∙ no-body _ _ (d .before .before .check .ensures) (d .reading .given .1) _ (inr (c .before .if2 .taken))
+    ∙ no-body plain _ _ (d .before .before .check .ensures) (d .reading .given .1) _ (inr (c .before .if2 .taken))
 
 header-at-requires : tie.Need-header-at-requires
 header-at-requires c κs =
@@ -78,7 +79,7 @@ inside : (c : tie.After-body) → c .body .result .start + c .body .result .size
     ≤ length (c .before .before .before .before .before .before .before .before .before .before .before .before .before .args .image .now)
 inside c =
     let d = c .before .before .before .before .before .before .before in
-    ends _ _ (d .before .before .check .ensures) (d .reading .given .1) _ (omega arith) (omega arith) (c .before .header-at .ensures)
+    ends plain _ _ (d .before .before .check .ensures) (d .reading .given .1) _ (omega arith) (omega arith) (c .before .header-at .ensures)
     (c .body .ensures)
 
 add-result : tie.Need-add-result
@@ -98,7 +99,7 @@ part-result-end-4 c = inside c
 returns-4 : tie.Need-returns-4
 returns-4 c =
     let d = c .before .before .before .before .before .before .before .before in
-    part-is _ _ (d .before .before .check .ensures) (d .reading .given .1) _ (omega arith) (omega arith)
+    part-is plain _ _ (d .before .before .check .ensures) (d .reading .given .1) _ (omega arith) (omega arith)
     (c .before .before .header-at .ensures) (c .before .body .ensures)
 
 pub body-spec : {M : Type 1} → statement M

@@ -5,15 +5,16 @@ use mathlib.Core.Path.{_≡_, refl, _∙_, ap}
 use mathlib.Core.List.{List}
 use lib.ListN.{length, take, set, getD, length-set}
 use lib.Seq.{sets, take-all}
+use Rattle.pdi_spec.specs.Limits.{rowWidth}
 use Rattle.rows.proofs.Stores.{store-next}
 use Rattle.rows.proofs.buffer.put.Statement.{statement}
 use Rattle.rows.proofs.buffer.put.Tie as tie
 
 abbrev Inv-loop : tie.InvT-loop
-Inv-loop rows₀ at row k₀ rows k = (k ≤ 8) × (length rows ≡ length rows₀) × (rows ≡ sets rows₀ at (take k row))
+Inv-loop rows₀ at row k₀ rows k = (k ≤ rowWidth) × (length rows ≡ length rows₀) × (rows ≡ sets rows₀ at (take k row))
 
 abbrev μ-loop : tie.MeasureT-loop
-μ-loop rows₀ at row k₀ rows k = 8 - k
+μ-loop rows₀ at row k₀ rows k = rowWidth - k
 
 loop-holds : tie.Need-loop-holds Inv-loop μ-loop
 loop-holds c = (omega arith, refl, refl)
