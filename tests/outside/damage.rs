@@ -1,11 +1,14 @@
 //! Damages images: one rule on purpose, several rules at once, or anything anywhere.
 //!
-//! A deliberate damage states the answer that it aims at, so that a damage which misses its rule is noticed. `damage_table.rs`,
-//! `damage_partition.rs` and `damage_ranges.rs` hold the ways to break each rule.
+//! A deliberate damage states the answer that it aims at, so that a damage which misses its rule is noticed. The files
+//! `damage_*.rs` hold the ways to break each rule.
 
-use crate::damage_partition::{rule_10, rule_11, rule_12, rule_13, rule_14, rule_15, rule_16};
-use crate::damage_ranges::{rule_17, rule_18, rule_19};
-use crate::damage_table::{rule_1, rule_2, rule_3, rule_4, rule_5, rule_6, rule_7, rule_8, rule_9};
+use crate::damage_blocks::rule_17;
+use crate::damage_boot::rule_8;
+use crate::damage_chain::rule_10;
+use crate::damage_partition::{rule_11, rule_12, rule_13, rule_14, rule_15, rule_16};
+use crate::damage_ranges::{rule_18, rule_19};
+use crate::damage_table::{rule_1, rule_2, rule_3, rule_4, rule_5, rule_6, rule_7, rule_9};
 use crate::fields::{boot, get, put, put_boot_checksum_right, put_checksum_right, HEADER};
 use crate::layout::{Image, Part};
 use crate::limits::{LAST_RULE, MOST_PARTITIONS};

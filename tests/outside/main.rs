@@ -7,20 +7,28 @@ mod archive;
 mod bench_cases;
 mod compare;
 mod damage;
+mod damage_blocks;
+mod damage_boot;
+mod damage_chain;
 mod damage_partition;
 mod damage_ranges;
 mod damage_table;
+mod edits;
 mod fields;
 mod images;
 mod large;
 mod layout;
+mod layout_words;
 mod limits;
 mod memory;
+mod mistaken_rules;
 mod mistakes;
 mod plan;
+mod plan_partitions;
 mod random;
 mod reader;
 mod run;
+mod tally;
 
 use std::os::unix::process::ExitStatusExt;
 use std::process::{Command, ExitCode, Stdio};
@@ -31,7 +39,8 @@ use compare::What;
 use large::Large;
 use memory::Region;
 use mistakes::{MISTAKES, RIGHT};
-use run::{Feeder, Tally};
+use run::Feeder;
+use tally::Tally;
 
 const HELP: &str = "usage: outside [--images N] [--seed S] [--first I] [--self-test]
   --images N    how many generated images to compare (200000)
