@@ -15,6 +15,7 @@
 #include "pdi.h"
 #include "report.h"
 #include "rules.h"
+#include "standard_files.h"
 
 /* Two calls on the same bytes can't disagree, so the bytes aren't the same any more. */
 static enum status trouble_with_changed(const struct image *image)

@@ -2,10 +2,10 @@
  * must not hang on which of two places came last. */
 #include "options.h"
 
-#include <stdio.h>
 #include <string.h>
 
-#include "pdi.h"
+#include "commands.h"
+#include "number.h"
 #include "report.h"
 
 enum option_index { OPTION_PLACE, OPTION_TSV, OPTION_JSON, OPTION_OUTPUT, OPTION_HELP, OPTION_VERSION, OPTIONS };
@@ -28,20 +28,6 @@ static const struct option {
     [OPTION_VERSION] = {"--version", 0, false, 0},
 };
 
-/* How many operands follow the name of each command. */
-static const struct {
-    const char *name;
-    unsigned least;
-    unsigned most;
-    const char *operands;
-} commands[] = {
-    [COMMAND_NONE] = {NULL, 0, 0, NULL},
-    [COMMAND_LIST] = {"list", 1, 1, "takes one operand: FILE"},
-    [COMMAND_BILL] = {"bill", 1, 1, "takes one operand: FILE"},
-    [COMMAND_BODY] = {"body", 2, 2, "takes two operands: FILE and P"},
-    [COMMAND_EXPLAIN] = {"explain", 0, 1, "takes at most one operand: NUMBER"},
-};
-
 /* The words of the command line while they are taken apart. */
 struct words {
     int count;
@@ -51,44 +37,6 @@ struct words {
     const char *operands[4];     /* the command's name, two more, and one too many */
     unsigned operand_count;
 };
-
-static bool misused(const char *name, const char *what)
-{
-    trouble(name, what);
-    fputs("Try `foliobriar --help`.\n", stderr);
-    return false;
-}
-
-static unsigned digit_of(char letter)
-{
-    if (letter >= '0' && letter <= '9')
-        return (unsigned)(letter - '0');
-    if (letter >= 'a' && letter <= 'f')
-        return (unsigned)(letter - 'a') + 10;
-    if (letter >= 'A' && letter <= 'F')
-        return (unsigned)(letter - 'A') + 10;
-    return 16;                   /* no digit of any base here */
-}
-
-bool parse_number(const char *text, uint64_t *value)
-{
-    unsigned base = 10;
-    if (text[0] == '0' && (text[1] == 'x' || text[1] == 'X')) {
-        base = 16;
-        text += 2;
-    }
-    if (*text == '\0')
-        return false;
-    uint64_t sum = 0;
-    for (; *text != '\0'; text++) {
-        unsigned digit = digit_of(*text);
-        if (digit >= base || sum > (UINT64_MAX - digit) / base)
-            return false;
-        sum = sum * base + digit;
-    }
-    *value = sum;
-    return true;
-}
 
 /* Which option a word is, and its value where the word has that too: `--place=4`, `-oOUT`. */
 static enum option_index find_option(const char *word, const char **value)
@@ -181,17 +129,6 @@ static bool take_words(struct words *words, struct request *request)
     return true;
 }
 
-static bool find_command(const char *name, enum command *command)
-{
-    for (unsigned i = COMMAND_LIST; i <= COMMAND_EXPLAIN; i++) {
-        if (strcmp(name, commands[i].name) == 0) {
-            *command = (enum command)i;
-            return true;
-        }
-    }
-    return misused(name, "there is no such command");
-}
-
 /* Whether the command takes these options, and takes them together. */
 static bool check_options(const struct words *words, const struct request *request)
 {
@@ -202,30 +139,6 @@ static bool check_options(const struct words *words, const struct request *reque
         return misused("--tsv", "does not go together with --json");
     if (request->command == COMMAND_BODY && request->out == NULL)
         return misused("body", "needs -o OUT");
-    return true;
-}
-
-static bool read_operands(const struct words *words, struct request *request)
-{
-    enum command command = request->command;
-    unsigned count = words->operand_count - 1;
-    if (count < commands[command].least || count > commands[command].most)
-        return misused(commands[command].name, commands[command].operands);
-    const char *first = words->operands[1];
-    if (command == COMMAND_EXPLAIN) {
-        uint64_t number = 0;
-        request->numbered = count == 1;
-        if (request->numbered && (!parse_number(first, &number) || number > PDI_LAST_RULE)) {
-            char what[48];
-            snprintf(what, sizeof what, "is no number from 0 to %d", (int)PDI_LAST_RULE);
-            return misused(first, what);
-        }
-        request->number = (unsigned)number;
-        return true;
-    }
-    request->file = first;
-    if (command == COMMAND_BODY && !parse_number(words->operands[2], &request->partition))
-        return misused(words->operands[2], "is no number of a partition");
     return true;
 }
 
@@ -241,5 +154,5 @@ bool parse_request(int count, char **words, struct request *request)
         return true;
     if (taken.operand_count == 0)
         return misused("no command is given", "one of list, bill, body and explain is needed");
-    return check_options(&taken, request) && read_operands(&taken, request);
+    return check_options(&taken, request) && read_operands(taken.operands + 1, taken.operand_count - 1, request);
 }

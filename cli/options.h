@@ -34,9 +34,6 @@ struct request {
     unsigned number;
 };
 
-/* A number as options and operands write it: decimal, or hexadecimal after 0x, digits only, below 2^64. */
-bool parse_number(const char *text, uint64_t *value);
-
 /* Takes the words of the command line apart. Where they ask for nothing sound it says so on standard error. */
 bool parse_request(int count, char **words, struct request *request);
 

@@ -188,24 +188,3 @@ enum status write_body(const struct image *image, const struct body *body, const
         return write_over(image, body, out);
     return write_device(image, body, out);
 }
-
-void reserve_standard_files(void)
-{
-    /* The wrong way round on purpose: a read of 0 or a write to 1 or 2 still fails, as it would on a closed file. */
-    for (int file = STDIN_FILENO; file <= STDERR_FILENO; file++)
-        if (fcntl(file, F_GETFD) < 0 && errno == EBADF && open("/dev/null", file == STDIN_FILENO ? O_WRONLY : O_RDONLY) != file)
-            _exit(STATUS_TROUBLE);
-}
-
-enum status finish_standard_output(enum status status)
-{
-    bool failed = ferror(stdout) != 0;
-    errno = 0;
-    if (fclose(stdout) != 0)
-        failed = true;
-    if (!failed)
-        return status;
-    if (errno == 0)
-        return trouble("standard output", "cannot be written");
-    return trouble_with_reason("standard output", "cannot be written");
-}

@@ -1,4 +1,4 @@
-/* Writing a body to OUT, and ending standard output. */
+/* Writing a body to OUT. */
 #ifndef OUTPUT_H
 #define OUTPUT_H
 
@@ -14,13 +14,7 @@ struct body {
     size_t length;
 };
 
-/* Sees to it that 0, 1 and 2 are open, so that no file gets one of these numbers and takes what is meant for a stream. */
-void reserve_standard_files(void);
-
 /* Writes the body to the file `out`, whole or not at all; `-` is standard output. */
 enum status write_body(const struct image *image, const struct body *body, const char *out);
-
-/* Ends standard output. `status`, or STATUS_TROUBLE if something printed didn't arrive. */
-enum status finish_standard_output(enum status status);
 
 #endif

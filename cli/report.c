@@ -39,6 +39,13 @@ enum status trouble_with_reason(const char *name, const char *what)
     return STATUS_TROUBLE;
 }
 
+bool misused(const char *name, const char *what)
+{
+    trouble(name, what);
+    fputs("Try `foliobriar --help`.\n", stderr);
+    return false;
+}
+
 void end_line_with_refusal(uint64_t answer)
 {
     fprintf(stderr, "refused: number %u", pdi_number(answer));

@@ -2,6 +2,7 @@
 #ifndef REPORT_H
 #define REPORT_H
 
+#include <stdbool.h>
 #include <stdint.h>
 
 /* What the command ends with. Scripts rely on these numbers. */
@@ -19,6 +20,9 @@ enum status trouble(const char *name, const char *what);
 
 /* The same, with the words for the present errno at its end. */
 enum status trouble_with_reason(const char *name, const char *what);
+
+/* A whole line about a wrong call, and one that leads to --help; always false, so that a caller can return it. */
+bool misused(const char *name, const char *what);
 
 /* The line of a refusal: number, partition if one is meant, and the rule in plain words. */
 enum status report_refusal(const char *name, uint64_t answer);

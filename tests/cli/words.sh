@@ -85,7 +85,7 @@ test_help() {
         what="$word" && call list bench.pdi "$word"
         check "$word is known" test -z "$(grep 'no such option' err)"
     done <options
-    grep -o '{"[a-z]*", [0-9]' "$source" | grep -o '[a-z]*' >commands
+    grep -o '{"[a-z]*", [0-9]' "$root/cli/commands.c" | grep -o '[a-z]*' >commands
     same "commands of the sources" "list bill body explain" "$(paste -sd ' ' commands)"
     same "commands of --help" "$(cat commands)" "$(sed -n '/^Commands:/,/^$/s/^  \([a-z]*\) .*/\1/p' help)"
     same "commands of the man page" "$(cat commands)" \
