@@ -10,7 +10,7 @@ import struct
 import sys
 
 sys.dont_write_bytecode = True  # nothing is left beside the sources
-from images import HEADER, MOST, TABLE, bench, edited, two, with_block
+from bench_image import HEADER, MOST, TABLE, bench, edited, two, with_block
 
 ENOUGH = int(os.environ["PDI_ROWS_NUMBERS"])
 

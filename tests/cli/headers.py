@@ -1,5 +1,5 @@
-"""Writes the headers of an image, for images.py. The words and offsets are written out here and not taken from the command's sources, so
-that a fault there can't hide.
+"""Writes the headers of an image, for images.py and bench_image.py. The words and offsets are written out here and not taken from the
+command's sources, so that a fault there can't hide.
 """
 
 import struct

@@ -1,5 +1,5 @@
 # shellcheck shell=bash
-# The limits of pdi.h in the environment, for the scripts here and for images.py, so that none of them writes such a number down again.
+# The limits of pdi.h in the environment, for the scripts here in shell and Python, so that none of them writes such a number down again.
 
 # read_limits: compiles limits.c in $dir. The caller sets $here, $root and $dir.
 read_limits() {
