@@ -30,7 +30,8 @@ use Rattle.core.proofs.Stages.{once-broken, once-kept}
 -- ---- the two kinds of answers
 
 module _ {bytes : List ℕ} {place : ℕ} {rs : List Rule} {offsets entries : List ℕ} where
-  pub refused-told : {k p : ℕ} → refused k p ≡ verdict rs (asked bytes place) → CoreAnswer bytes place rs offsets entries (Reading.Refused k p)
+  pub refused-told : {k p : ℕ} → refused k p ≡ verdict rs (asked bytes place)
+      → CoreAnswer bytes place rs offsets entries (Reading.Refused k p)
   unfolding outcomeOf
   refused-told e = record { told = e; held = λ t bill q. let z : _≡_ {A = ℕ} 0 1 = cc in absurd (omega arith) }
 
