@@ -6,8 +6,6 @@ use mathlib.Core.Bool.{Bool, true, false}
 use mathlib.Core.List.{List, [], _∷_}
 use mathlib.Core.Path.{_≡_, refl, sym, _∙_, ap}
 use lib.ListN.{length, getD, set, length-set}
-use lib.Seq.{getD-set-same, getD-set-other}
-use borrow.Author.Count.{below-more}
 use Rattle.pdi_spec.specs.Answers.{hashEntry}
 use Rattle.pdi_spec.specs.File.{File, partitions, header, hashBlock}
 use Rattle.pdi_spec.specs.HashBlock.{hashEntryIn}
@@ -16,6 +14,7 @@ use Rattle.pdi_spec.specs.Limits.{mostPartitions}
 use Rattle.pdi_spec.specs.RuleList.{rule17}
 use Rattle.pdi_spec.specs.Rules.{hashBlockWrong}
 use Rattle.pdi_spec.specs.Verdict.{eachAndTable, verdict}
+use Rattle.pdi_spec.specs.Laws.Lists.{stored-more}
 use Rattle.pdi_spec.specs.Laws.Searches.{NoneOf, none-yet, one-more, found, not-found}
 use Rattle.chain_rules.proofs.Verdicts.{one-broken, one-kept}
 use Rattle.chain_rules.specs.Answers.{answerOf}
@@ -90,9 +89,6 @@ module _ (f : File) where
     onward l e {entry} is =
         record {
           none = one-more (hashBlockWrong f) 0 (i + 1) (so-far .none) (ap (hashBlockWrong f) same ∙ e);
-          stored = below-more _ i earlier (getD-set-same entries i entry 0 (omega (arith, so-far .room)) ∙ is);
+          stored = stored-more (λ k x. x ≡ hashEntry f (k + 1)) entries i entry (omega (arith, so-far .room)) (so-far .stored) is;
           room = length-set entries i entry ∙ so-far .room;
         }
-      where
-        earlier : (k : ℕ) → k < i → getD (set entries i entry) k 0 ≡ hashEntry f (k + 1)
-        earlier k h = getD-set-other entries i k entry 0 (λ e. omega arith) ∙ so-far .stored k h

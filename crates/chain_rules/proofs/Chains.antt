@@ -4,14 +4,13 @@ use native.Mathlib.Omega.{arith}
 use mathlib.Core.List.{List, [], _∷_}
 use mathlib.Core.Path.{_≡_, sym, _∙_, ap}
 use lib.ListN.{length, getD, set, length-set}
-use lib.Seq.{getD-set-same, getD-set-other}
-use borrow.Author.Count.{below-more}
 use Rattle.pdi_spec.specs.File.{File, partitions, partitionNumbers, headerAt}
 use Rattle.pdi_spec.specs.Headers.{headerSize}
 use Rattle.pdi_spec.specs.Limits.{mostPartitions}
 use Rattle.pdi_spec.specs.RuleList.{rule10}
 use Rattle.pdi_spec.specs.Rules.{chainBroken}
 use Rattle.pdi_spec.specs.Verdict.{each, verdict}
+use Rattle.pdi_spec.specs.Laws.Lists.{stored-more}
 use Rattle.pdi_spec.specs.Laws.Searches.{NoneOf, none-yet, one-more, found, not-found}
 use Rattle.chain_rules.specs.Answers.{answerOf}
 use Rattle.chain_rules.specs.Chain.{linkAt}
@@ -20,14 +19,14 @@ use Rattle.chain_rules.specs.declared.chain.Link.{Link}
 use Rattle.chain_rules.proofs.Links.{next-at, link-broken, link-next, header-inside}
 use Rattle.chain_rules.proofs.Verdicts.{one-broken, one-kept}
 
--- header k lies where the chain says, all inside
-abbrev pub Lies : File → List ℕ → ℕ → Type 0
-Lies f offsets k = (getD offsets k 0 ≡ headerAt f (k + 1)) × (getD offsets k 0 + headerSize ≤ length (f .bytes))
+-- header k, at this offset, lies where the chain says, all inside
+abbrev pub Lies : File → ℕ → ℕ → Type 0
+Lies f k offset = (offset ≡ headerAt f (k + 1)) × (offset + headerSize ≤ length (f .bytes))
 
 -- after i links: no rule is broken so far, the i offsets are stored, and `at` is where the next header lies
 pub record ChainSoFar (f : File) (offsets : List ℕ) (at i : ℕ) : Type 0 where
   pub none : NoneOf (chainBroken f) 1 i
-  pub stored : (k : ℕ) → k < i → Lies f offsets k
+  pub stored : (k : ℕ) → k < i → Lies f k (getD offsets k 0)
   pub next : at ≡ headerAt f (i + 1)
   pub room : length offsets ≡ mostPartitions
 
@@ -54,17 +53,10 @@ module _ (f : File) {offsets : List ℕ} {at i : ℕ} (so-far : ChainSoFar f off
       let same : 1 + i ≡ i + 1 = omega arith in
       record {
         none = one-more (chainBroken f) 1 i (so-far .none) (ap (chainBroken f) same ∙ t .0);
-        stored = below-more (Lies f (set offsets i at)) i (λ k h. earlier k h (so-far .stored k h)) (here (header-inside f (i + 1) (t .0)));
+        stored = stored-more (Lies f) offsets i at (omega (arith, so-far .room)) (so-far .stored) (here (header-inside f (i + 1) (t .0)));
         next = ap (λ (n : ℕ). 4 * n) (t .1) ∙ sym (next-at f i);
         room = length-set offsets i at ∙ so-far .room;
       }
     where
-      earlier : (k : ℕ) → k < i → Lies f offsets k → Lies f (set offsets i at) k
-      earlier k h s =
-          let other : getD (set offsets i at) k 0 ≡ getD offsets k 0 = getD-set-other offsets i k at 0 (λ e. omega arith) in
-          (other ∙ s .0, omega (arith, other, s .1))
-
-      here : headerAt f (i + 1) + headerSize ≤ length (f .bytes) → Lies f (set offsets i at) i
-      here h =
-          let same : getD (set offsets i at) i 0 ≡ at = getD-set-same offsets i at 0 (omega (arith, so-far .room)) in
-          (same ∙ so-far .next, omega (arith, same, so-far .next))
+      here : headerAt f (i + 1) + headerSize ≤ length (f .bytes) → Lies f i at
+      here h = (so-far .next, omega (arith, so-far .next))

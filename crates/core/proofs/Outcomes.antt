@@ -25,7 +25,7 @@ use Rattle.chain_rules.specs.Chain.{IsTable, fileOf}
 use Rattle.chain_rules.specs.declared.Answer.{Answer}
 use Rattle.core.specs.Readings.{coreRules, outcomeOf, Held, CoreAnswer}
 use Rattle.core.specs.declared.Reading.{Reading}
-use Rattle.core.proofs.Stages.{once-broken, once-kept}
+use Rattle.core.proofs.Stages.{kept-accepts, refused-refuses, once-broken, once-kept}
 
 -- ---- the two kinds of answers
 
@@ -118,19 +118,7 @@ module _ (bytes : List ℕ) (place : ℕ) (later : List Rule) {t : TableHeader} 
       ∙ rw (k .kept) (ap (λ (p : ℕ). verdict later (asked bytes p)) (sym (k .at-place)) ∙ e))
 
   pub all-kept : r ≡ Answer.Kept → accepted ≡ verdict (tableRules ++ later) (asked bytes place)
-  unfolding answerOf
-  all-kept e = go (verdict later (fileOf bytes t)) refl (sym told ∙ e)
-    where
-      go : (o : Outcome) → verdict later (fileOf bytes t) ≡ o → answerOf o ≡ Answer.Kept
-          → accepted ≡ verdict (tableRules ++ later) (asked bytes place)
-      go accepted q h = rest accepted q
-      go (refused m p) q h = let z : _≡_ {A = ℕ} 0 1 = cc in absurd (omega arith)
+  all-kept e = rest accepted (kept-accepts _ (sym e ∙ told))
 
   pub one-refused : {m p : ℕ} → r ≡ Answer.Refused m p → refused m p ≡ verdict (tableRules ++ later) (asked bytes place)
-  unfolding answerOf
-  one-refused {m} {p} e = go (verdict later (fileOf bytes t)) refl (sym told ∙ e)
-    where
-      go : (o : Outcome) → verdict later (fileOf bytes t) ≡ o → answerOf o ≡ Answer.Refused m p
-          → refused m p ≡ verdict (tableRules ++ later) (asked bytes place)
-      go accepted q h = let z : _≡_ {A = ℕ} 0 1 = cc in absurd (omega arith)
-      go (refused a b) q h = let same : refused m p ≡ refused a b = cc in same ∙ rest (refused a b) q
+  one-refused {m} {p} e = rest (refused m p) (refused-refuses _ (sym e ∙ told))

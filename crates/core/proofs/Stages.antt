@@ -4,7 +4,7 @@ use native.Mathlib.Omega.{arith}
 use mathlib.Core.Bool.{Bool, true, false}
 use mathlib.Core.List.{List, [], _∷_, _++_}
 use mathlib.Core.Option.{Option·elim}
-use mathlib.Core.Path.{_≡_, refl, _∙_, ap}
+use mathlib.Core.Path.{_≡_, refl, sym, _∙_, ap}
 use Rattle.pdi_spec.specs.File.{File}
 use Rattle.pdi_spec.specs.Lists.{firstOf}
 use Rattle.pdi_spec.specs.RuleList.{rule10, rule17, rule18, rule19, headerRules, tableRules, partitionRules, clashRules, readingRules, plainRules}
@@ -13,22 +13,25 @@ use Rattle.pdi_spec.specs.Laws.Verdict.{andThen, verdict-append}
 use Rattle.chain_rules.specs.Answers.{answerOf}
 use Rattle.chain_rules.specs.declared.Answer.{Answer}
 
+-- what an answer says of the verdict
+pub kept-accepts : (o : Outcome) → Answer.Kept ≡ answerOf o → o ≡ accepted
+unfolding answerOf
+kept-accepts accepted e = refl
+kept-accepts (refused m n) e = let z : _≡_ {A = ℕ} 0 1 = cc in absurd (omega arith)
+
+pub refused-refuses : (o : Outcome) {k p : ℕ} → Answer.Refused k p ≡ answerOf o → o ≡ refused k p
+unfolding answerOf
+refused-refuses accepted e = let z : _≡_ {A = ℕ} 0 1 = cc in absurd (omega arith)
+refused-refuses (refused m n) e = cc
+
 -- a stage that refuses settles the answer, and one that doesn't leaves it to the next
 pub stops : (o later : Outcome) {r : Answer} {k p : ℕ} → r ≡ answerOf o → r ≡ Answer.Refused k p → r ≡ answerOf (andThen o later)
 unfolding answerOf andThen
-stops o later {r} told e = go o told
-  where
-    go : (o′ : Outcome) → r ≡ answerOf o′ → r ≡ answerOf (andThen o′ later)
-    go accepted q = let z : _≡_ {A = ℕ} 0 1 = cc in absurd (omega arith)
-    go (refused m n) q = q
+stops o later told e = rw (refused-refuses o (sym e ∙ told)) e
 
 pub goes-on : (o later : Outcome) {r : Answer} → r ≡ answerOf o → r ≡ Answer.Kept → answerOf later ≡ answerOf (andThen o later)
-unfolding answerOf andThen
-goes-on o later {r} told e = go o told
-  where
-    go : (o′ : Outcome) → r ≡ answerOf o′ → answerOf later ≡ answerOf (andThen o′ later)
-    go accepted q = refl
-    go (refused m n) q = let z : _≡_ {A = ℕ} 0 1 = cc in absurd (omega arith)
+unfolding andThen
+goes-on o later told e = rw (kept-accepts o (sym e ∙ told)) refl
 
 pub never : {r : Answer} {k p : ℕ} → r ≡ Answer.Refused k p → r ≡ Answer.Kept → ⊥
 never e q = let z : _≡_ {A = ℕ} 0 1 = cc in omega arith

@@ -24,6 +24,6 @@ pub record Supported (own : List Rule) : Type 0 where
   pub loads : List·Mem rule19 own
   -- number 0 is an acceptance, 1 and 2 are numbers of the rules that come before the question's own
   pub over-2 : (r : Rule) → List·Mem r own → 2 < r .number
-  -- numbers are small, so that 64 × number + p always fits
+  -- numbers are small, so that 64 × number + p fits a 64-bit number, whatever the list
   pub below-64 : (r : Rule) → List·Mem r own → r .number < 64
   pub well-tried : (r : Rule) → List·Mem r own → WellTried r

@@ -1,5 +1,6 @@
--- Laws of lists in general, for the proofs of the other files: the entries that pass a test, and lists joined. Assumes nothing.
-use Prim.Native.Nat.{ℕ, zero, suc, _+_, _*_}
+-- Laws of lists in general, for the proofs of the other files: the entries that pass a test, lists joined, and entries stored one after
+-- another. Assumes nothing.
+use Prim.Native.Nat.{ℕ, zero, suc, _+_, _*_, _<_}
 use native.Mathlib.Numerals.{add-one}
 use native.Mathlib.Nat.{mul-zero, mul-suc}
 use native.Mathlib.Omega.{arith}
@@ -8,8 +9,9 @@ use mathlib.Core.List.{List, [], _∷_, _++_, flatMap, List·Mem, mem-cons-self,
 use mathlib.Core.Logic.{∥∥₁-elim, ∥∥₁-map, ∥∥₁-prop, Or·elim}
 use mathlib.Core.HLevel.{⊥-prop}
 use mathlib.Core.Path.{_≡_, refl, sym, _∙_, ap, subst}
-use lib.ListN.{length, length-append, set}
-use lib.Seq.{sets}
+use lib.ListN.{length, length-append, set, getD}
+use lib.Seq.{sets, getD-set-same, getD-set-other}
+use borrow.Author.Count.{below-more}
 use Rattle.pdi_spec.specs.{Lists.numbers, Lists.those}
 
 -- the entries that pass a test are some of the list, in its order
@@ -57,6 +59,14 @@ unfolding flatMap
 flatMap-length width f h [] = sym (mul-zero width)
 flatMap-length width f h (x ∷ xs) =
     length-append (f x) (flatMap f xs) ∙ omega (arith, h x, flatMap-length width f h xs, mul-suc width (length xs))
+
+-- what holds of the first i entries, and of one that is stored next, holds of the first i + 1
+pub stored-more : (P : ℕ → ℕ → Type 0) (l : List ℕ) (i x : ℕ) → i < length l → ((k : ℕ) → k < i → P k (getD l k 0)) → P i x
+    → (k : ℕ) → k < i + 1 → P k (getD (set l i x) k 0)
+stored-more P l i x room before here =
+    below-more (λ (k : ℕ). P k (getD (set l i x) k 0)) i
+    (λ k h. subst (P k) (sym (getD-set-other l i k x 0 (λ e. omega arith))) (before k h))
+    (subst (P i) (sym (getD-set-same l i x 0 room)) here)
 
 -- what is stored right behind a run is stored with it
 pub sets-append : (l xs ys : List ℕ) (i k : ℕ) → k ≡ i + length xs → sets (sets l i xs) k ys ≡ sets l i (xs ++ ys)

@@ -36,6 +36,7 @@ plain-tried : Every WellTried plainRules
 unfolding plainRules readingRules tableRules partitionRules headerRules clashRules
 plain-tried = search (well-once, well-each, well-with-table)
 
+-- each has a number from 3 to 19
 numbered : (r : Rule) → List·Mem r plainRules → (3 ≤ r .number) × (r .number < 3 + 17)
 numbered r m = mem-numbers 3 17 (rw plain-numbers at (mem-map-of-mem (λ (s : Rule). s .number) m))
 

@@ -122,17 +122,22 @@ module _ {own : List Rule} (s : Supported own) where
       counts-stated f (accepted-kept _ f e (mem-cons-of-mem rule1 (rw (s .table-first) (mem-append-left (s .later) table-counts)))) .3
 
   module _ (least have : ℕ) where
-    positive : (r : Rule) → List·Mem r (withBuffer least have own) → 0 < r .number
-    unfolding withBuffer once
-    positive = forall-mem-cons (λ r. le-prop) .1 (lit< tt, forall-mem-cons (λ r. le-prop) .1 (lit< tt, λ r m. omega (arith, s .over-2 r m)))
+    -- what holds of rules 1 and 2 and of the question's own rules holds of all of them
+    of-all : (P : Rule → Type 0) → ((r : Rule) → IsProp (P r)) → P rule1 → P (rule2 least have) → ((r : Rule) → List·Mem r own → P r)
+        → (r : Rule) → List·Mem r (withBuffer least have own) → P r
+    unfolding withBuffer
+    of-all P prop first second h = forall-mem-cons prop .1 (first, forall-mem-cons prop .1 (second, h))
 
-    small : (r : Rule) → List·Mem r (withBuffer least have own) → r .number < 64
-    unfolding withBuffer once
-    small = forall-mem-cons (λ r. le-prop) .1 (lit< tt, forall-mem-cons (λ r. le-prop) .1 (lit< tt, s .below-64))
+    positive : (r : Rule) → List·Mem r (withBuffer least have own) → 0 < r .number
+    unfolding once
+    positive = of-all (λ r. 0 < r .number) (λ r. le-prop) (lit< tt) (lit< tt) (λ r m. omega (arith, s .over-2 r m))
+
+    below : (r : Rule) → List·Mem r (withBuffer least have own) → r .number < 64
+    unfolding once
+    below = of-all (λ r. r .number < 64) (λ r. le-prop) (lit< tt) (lit< tt) (s .below-64)
 
     pub well-tried : (r : Rule) → List·Mem r (withBuffer least have own) → WellTried r
-    unfolding withBuffer
-    well-tried = forall-mem-cons well-prop .1 (well-once _ _, forall-mem-cons well-prop .1 (well-once _ _, s .well-tried))
+    well-tried = of-all WellTried well-prop (well-once _ _) (well-once _ _) (s .well-tried)
 
     -- it answers 0 exactly where it accepts
     pub zero-accepted : (f : File) → answer (verdict (withBuffer least have own) f) ≡ 0 → verdict (withBuffer least have own) f ≡ accepted
@@ -166,4 +171,4 @@ module _ {own : List Rule} (s : Supported own) where
 
     -- and its number is below 64
     pub refusal-below : (f : File) (k p : ℕ) → verdict (withBuffer least have own) f ≡ refused k p → k < 64
-    refusal-below f k p e = let t = refusal-rule _ f k p e in omega (arith, small (t .0) (t .1), t .2)
+    refusal-below f k p e = let t = refusal-rule _ f k p e in omega (arith, below (t .0) (t .1), t .2)
