@@ -2,8 +2,8 @@
 // An enum cannot hold a part of a slice, so the place is in the enum and the image's part is handed back beside it.
 use words::byte_at;
 ghost use mathlib.Core.Path.{_≡_};
-ghost use Prim.Native.Nat.{_<_, _≤_};
-ghost use lib.ListN.{drop};
+ghost use Prim.Native.Nat.{_+_, _<_, _≤_, min};
+ghost use lib.ListN.{drop, length};
 ghost use Rattle.pdi_spec.specs.Envelope.{bigEndianAt, envelope, envelopeHead};
 ghost use Rattle.envelope.specs.Opened.{openedAs};
 
@@ -57,9 +57,12 @@ pub fn open(input: &[u8]) -> Opened
     Opened::Holds(big_endian_at(input, 5))
 }
 
-// The image's part of the input: what follows the first 9 bytes.
+// The image's part of the input: what follows the first 9 bytes. The last two promises say that it lies there in the caller's own input:
+// in the same block of memory, and at which offset.
 pub fn image<'a>(input: &'a [u8]) -> &'a [u8]
-    ensures { λ r. ⌜ now r ≡ drop envelopeHead (now (input .entry)) ⌝ }
+    ensures bytes { λ r. ⌜ now r ≡ drop envelopeHead (now (input .entry)) ⌝ }
+    ensures block { λ r. ⌜ r .ptr .0 ≡ input .entry .ptr .0 ⌝ }
+    ensures offset { λ r. ⌜ r .ptr .1 ≡ input .entry .ptr .1 + min envelopeHead (length (now (input .entry))) ⌝ }
 {
     let start = HEAD;
     if input.len() < start {

@@ -82,15 +82,21 @@ rowsAfter rs f rows = written rs f ++ drop (length (written rs f)) rows
 unfoldable pub billUnder : List Rule → File → ℕ
 billUnder rs f = ifAccepted (verdict rs f) (billed f) 0
 
--- a part of the image
+-- the bytes of a part of the image
 unfoldable pub cut : Range → List ℕ → List ℕ
 cut r bytes = take (r .size) (drop (r .start) bytes)
 
+-- a part with no bytes; that it lies at the image's start is our reading, as document 01 leaves its place open
+abbrev pub emptyPart : Range
+emptyPart = record { start = 0; size = 0 }
+
 -- "hands back the stored bytes of that partition as a part of the lent image. It is empty if the image is refused or p isn't
--- 1 to N"
+-- 1 to N": which part of the image that is, and its bytes
+unfoldable pub partUnder : List Rule → File → ℕ → Range
+partUnder rs f p = ifAccepted (verdict rs f) (cond (notFrom 1 (partitions f) p) emptyPart (body f p)) emptyPart
+
 unfoldable pub bodyUnder : List Rule → File → ℕ → List ℕ
-bodyUnder rs f p =
-    ifAccepted (verdict rs f) (cond (notFrom 1 (partitions f) p) [] (cut (body f p) (f .bytes))) []
+bodyUnder rs f p = cut (partUnder rs f p) (f .bytes)
 
 -- ---- questions, each given by its own rules of the image, for any image, place, row buffer and p
 
@@ -106,6 +112,9 @@ rowsBy own image place rows = rowsAfter (withRows (length rows) own) (asked imag
 unfoldable pub billBy : List Rule → List ℕ → ℕ → ℕ
 billBy own image place = billUnder (withoutBuffer own) (asked image place)
 
+unfoldable pub partBy : List Rule → List ℕ → ℕ → ℕ → Range
+partBy own image place p = partUnder (withoutBuffer own) (asked image place) p
+
 unfoldable pub bodyBy : List Rule → List ℕ → ℕ → ℕ → List ℕ
 bodyBy own image place p = bodyUnder (withoutBuffer own) (asked image place) p
 
@@ -119,6 +128,10 @@ readRows = rowsBy plainRules
 
 abbrev pub billAnswer : List ℕ → ℕ → ℕ
 billAnswer = billBy plainRules
+
+-- the part of the image that body hands back, and its bytes
+abbrev pub bodyPart : List ℕ → ℕ → ℕ → Range
+bodyPart = partBy plainRules
 
 abbrev pub bodyAnswer : List ℕ → ℕ → ℕ → List ℕ
 bodyAnswer = bodyBy plainRules

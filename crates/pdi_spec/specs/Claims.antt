@@ -4,10 +4,13 @@
 --      state (Rows).
 --   3. Loading the accepted partitions in any order gives one memory, no address written twice, and the bill is the count of
 --      positions in at least one span (Memory).
+-- Answers has the demands' sentences whole, of the answers of read, bill, body and the host's calls; Cases has limits, the program's input
+-- and the starred cases.
 -- That the questions take any input and end is in their being functions of any list of bytes, place and row buffer (Answers.antt).
 -- `rs` is any list of rules, so that such a claim holds of every question that has the rules it names; what is claimed of plain reading's
 -- answers holds of any question whose own rules are as Supported.antt says, by the same laws. Assumes nothing.
 pub mod Acceptance
+pub mod Answers
 pub mod Cases
 pub mod Clashes
 pub mod Memory

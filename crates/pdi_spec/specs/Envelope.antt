@@ -6,6 +6,7 @@ use mathlib.Core.Bool.{Bool, cond, not, _||_}
 use mathlib.Core.List.{List, reverse}
 use lib.ListN.{length, drop}
 use lib.Dec.{ltb, eqb}
+use Rattle.pdi_spec.specs.Limits.{longestProgramImage}
 use Rattle.pdi_spec.specs.File.{File}
 use Rattle.pdi_spec.specs.Words.{byteAt}
 use Rattle.pdi_spec.specs.Host.{leBytes}
@@ -28,10 +29,11 @@ bigEndian number = reverse (leBytes 4 number)
 unfoldable pub envelopeHead : ℕ
 envelopeHead = 9
 
+-- "input of another version, a longer stated length, or too few or too many bytes"
 unfoldable pub envelopeBad : List ℕ → Bool
 envelopeBad input =
     not (eqb (byteAt input 0) 1)
-    || ltb 65527 (bigEndianAt input 1)
+    || ltb longestProgramImage (bigEndianAt input 1)
     || not (eqb (length input) (envelopeHead + bigEndianAt input 1))
 
 unfoldable pub envelope : List ℕ → Envelope

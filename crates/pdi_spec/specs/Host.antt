@@ -1,9 +1,9 @@
 -- Document 01: "The metering host is written in C and calls read and bill on plain numbers and byte slices, with the same
 -- answers. Its rows lie in bytes, 8 to a number, little-endian; number 2 there means under 2,080 bytes." Assumes nothing.
 -- The host's bill is bill's own answer, `billAnswer`.
-use Prim.Native.Nat.{ℕ, zero, suc, _/_, _%_}
+use Prim.Native.Nat.{ℕ, zero, suc, _+_, _*_, _/_, _%_}
 use mathlib.Core.List.{List, [], _∷_, _++_, flatMap}
-use lib.ListN.{length, drop}
+use lib.ListN.{length, take, drop}
 use Rattle.pdi_spec.specs.Limits.{numberBytes}
 use Rattle.pdi_spec.specs.File.{File}
 use Rattle.pdi_spec.specs.Verdict.{Rule, verdict}
@@ -14,6 +14,19 @@ use Rattle.pdi_spec.specs.Answers.{answer, written, asked}
 unfoldable pub leBytes : ℕ → ℕ → List ℕ
 leBytes zero number = []
 leBytes (suc n) number = number % 256 ∷ leBytes n (number / 256)
+
+-- the number that bytes state, the least first
+unfoldable pub leNumber : List ℕ → ℕ
+leNumber [] = 0
+leNumber (b ∷ bytes) = b + 256 * leNumber bytes
+
+-- the first n numbers of the host's row buffer, and all that it has room for
+unfoldable pub numbersFrom : ℕ → List ℕ → List ℕ
+numbersFrom zero bytes = []
+numbersFrom (suc n) bytes = leNumber (take numberBytes bytes) ∷ numbersFrom n (drop numberBytes bytes)
+
+unfoldable pub hostNumbers : List ℕ → List ℕ
+hostNumbers bytes = numbersFrom (length bytes / numberBytes) bytes
 
 -- what an acceptance writes, 8 bytes to a number
 unfoldable pub writtenBytes : List Rule → File → List ℕ

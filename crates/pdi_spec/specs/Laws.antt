@@ -9,14 +9,17 @@ pub mod Counts
 pub mod Envelope
 pub mod Firsts
 pub mod HashBlock
+pub mod HostNumbers
 pub mod Inside
 pub mod Kept
 pub mod Lists
 pub mod Loading
 pub mod Plain
+pub mod Questions
 pub mod Refusals
 pub mod Rows
 pub mod Searches
 pub mod Stated
 pub mod Tests
 pub mod Verdict
+pub mod Widths

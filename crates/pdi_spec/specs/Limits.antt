@@ -5,6 +5,10 @@ use Prim.Native.Nat.{ℕ, _+_, _*_}
 abbrev pub longestImage : ℕ
 longestImage = 1073741824
 
+-- The program: "The image is at most 65,527 bytes."
+abbrev pub longestProgramImage : ℕ
+longestProgramImage = 65527
+
 -- Rule 6: "images or partitions not 1 to 32".
 abbrev pub mostImages : ℕ
 mostImages = 32

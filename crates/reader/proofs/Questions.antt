@@ -7,7 +7,7 @@ use mathlib.Core.Logic.{_⊎_, inl, inr}
 use mathlib.Core.Path.{_≡_, refl, sym, _∙_, ap}
 use lib.Dec.{ltb}
 use lib.ListN.{length, take, drop}
-use Rattle.pdi_spec.specs.Answers.{asked, answer, billed, readBy, rowsBy, billBy, bodyBy, cut}
+use Rattle.pdi_spec.specs.Answers.{asked, answer, billed, readBy, rowsBy, billBy, partBy, bodyBy, emptyPart, bodyUnder, cut}
 use Rattle.pdi_spec.specs.File.{File, partitions, header}
 use Rattle.pdi_spec.specs.Headers.{Header}
 use Rattle.pdi_spec.specs.Limits.{bufferNumbers, headWidth, rowWidth}
@@ -16,7 +16,7 @@ use Rattle.pdi_spec.specs.RuleList.{rule1, withoutBuffer, withBuffer, withRows}
 use Rattle.pdi_spec.specs.Rules.{bufferTooShort}
 use Rattle.pdi_spec.specs.Supported.{Supported}
 use Rattle.pdi_spec.specs.Verdict.{Rule, once, accepted, refused, verdict}
-use Rattle.pdi_spec.specs.Laws.Answers.{bill-accepted, bill-refused, body-accepted, body-none, body-refused}
+use Rattle.pdi_spec.specs.Laws.Answers.{bill-accepted, bill-refused, part-accepted, part-none, part-refused}
 use Rattle.pdi_spec.specs.Laws.Kept.{lengths-stated, span-stated}
 use Rattle.pdi_spec.specs.Laws.Refusals.{buffer-accepts, refusal-below, refusal-p}
 use Rattle.pdi_spec.specs.Laws.Rows.{after-accepted, after-refused}
@@ -60,9 +60,9 @@ module _ {own : List Rule} (s : Supported own) (bytes : List ℕ) (place : ℕ) 
   unfolding billBy
   refused-bill {k} {p} e = sym (bill-refused (withoutBuffer own) f k p (refused-is e))
 
-  pub refused-body : {k p : ℕ} → r ≡ Reading.Refused k p → (q : ℕ) → [] ≡ bodyBy own bytes place q
-  unfolding bodyBy
-  refused-body {k} {p} e q = sym (body-refused (withoutBuffer own) f k p (refused-is e) q)
+  pub refused-part : {k p : ℕ} → r ≡ Reading.Refused k p → (q : ℕ) → partBy own bytes place q ≡ emptyPart
+  unfolding partBy
+  refused-part {k} {p} e q = part-refused (withoutBuffer own) f k p (refused-is e) q
 
   module _ {t : TableHeader} {bill : ℕ} (e : r ≡ Reading.Accepted t bill) where
     abbrev held : Held bytes place t bill offsets entries
@@ -78,9 +78,9 @@ module _ {own : List Rule} (s : Supported own) (bytes : List ℕ) (place : ℕ) 
     unfolding billBy
     accepted-bill = held .billed-is ∙ ap billed same-file ∙ sym (bill-accepted (withoutBuffer own) f (accepted-is e))
 
-    pub no-body : (p : ℕ) → (p < 1) ⊎ (t .partitions < p) → [] ≡ bodyBy own bytes place p
-    unfolding bodyBy
-    no-body p h = sym (body-none (withoutBuffer own) f p (go h))
+    pub no-part : (p : ℕ) → (p < 1) ⊎ (t .partitions < p) → partBy own bytes place p ≡ emptyPart
+    unfolding partBy
+    no-part p h = part-none (withoutBuffer own) f p (go h)
       where
         go : (p < 1) ⊎ (t .partitions < p) → (p < 1) ⊎ (partitions f < p)
         go (inl l) = inl l
@@ -106,13 +106,9 @@ module _ {own : List Rule} (s : Supported own) (bytes : List ℕ) (place : ℕ) 
           (mem-cons-of-mem rule1 (s .lengths))) .2 in
           omega (arith, span, order, ap (λ (r : Range). r .start) is-body, ap (λ (r : Range). r .size) is-body)
 
-      pub part-is : take (b .start + b .size - b .start) (drop (b .start) bytes) ≡ bodyBy own bytes place p
-      unfolding bodyBy cut
-      part-is =
-          let size : b .start + b .size - b .start ≡ b .size = omega arith in
-          ap (λ (n : ℕ). take n (drop (b .start) bytes)) size
-          ∙ ap (λ (r : Range). cut r bytes) is-body
-          ∙ sym (body-accepted (withoutBuffer own) f (accepted-is e) p low (omega (arith, count-is)))
+      pub part-is : partBy own bytes place p ≡ b
+      unfolding partBy
+      part-is = part-accepted (withoutBuffer own) f (accepted-is e) p low (omega (arith, count-is)) ∙ sym is-body
 
 -- ---- the same of read, with a row buffer
 
@@ -167,6 +163,10 @@ module _ {own : List Rule} (s : Supported own) (bytes : List ℕ) (place : ℕ) 
         w ∙ ap (λ (q : ℕ). overwritten (asked bytes q) rows) (told .held t bill e .at-place)
         ∙ sym (after-accepted (withRows (length rows) own) g rows read-accepted)
 
--- the part behind the last byte is empty
-pub behind : (bytes : List ℕ) → take (length bytes - length bytes) (drop (length bytes) bytes) ≡ []
-behind bytes = ap (λ (n : ℕ). take n (drop (length bytes) bytes)) {x = length bytes - length bytes} {y = 0} (omega arith)
+-- what body hands back where its part is b: its bytes, and its place in the image
+pub part-bytes : (own : List Rule) (bytes : List ℕ) (place p : ℕ) (b : Range) → partBy own bytes place p ≡ b
+    → take (b .start + b .size - b .start) (drop (b .start) bytes) ≡ bodyBy own bytes place p
+unfolding bodyBy bodyUnder partBy cut
+part-bytes own bytes place p b e =
+    ap (λ (n : ℕ). take n (drop (b .start) bytes)) {x = b .start + b .size - b .start} {y = b .size} (omega arith)
+    ∙ ap (λ (r : Range). cut r bytes) (sym e)

@@ -9,7 +9,7 @@ body-requires : tie.Need-body-requires
 body-requires c κs = search needs
 
 returns : tie.Need-returns
-returns c = ap length (c .body .ensures)
+returns c = ap length (c .body .ensures .0)
 
 pub pdi-body-length-spec : {M : Type 1} → statement M
 pdi-body-length-spec = tie.close (tie.spec body-requires returns)

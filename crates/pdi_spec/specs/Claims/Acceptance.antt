@@ -34,11 +34,6 @@ pub host-accepts : (image : List ℕ) (place : ℕ) (rows : List ℕ)
     ↔ ((bufferBytes ≤ length rows) × (verdict (withoutBuffer plainRules) (asked image place) ≡ accepted))
 host-accepts = Laws.Answers.host-accepts plain
 
--- With buffers that serve, the host's read answers as read does.
-pub host-same-answer : (image : List ℕ) (place : ℕ) (rows bytes : List ℕ) → bufferNumbers ≤ length rows → bufferBytes ≤ length bytes
-    → hostAnswer image place bytes ≡ readAnswer image place rows
-host-same-answer = Laws.Answers.host-same plainRules
-
 -- Rule 6 asks for 1 to 32 images and 1 to 32 partitions.
 pub counts-stated : (f : File) → Kept rule6 f
     → (1 ≤ table f .images) × (table f .images ≤ mostImages) × (1 ≤ partitions f) × (partitions f ≤ mostPartitions)

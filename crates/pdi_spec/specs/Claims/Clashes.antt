@@ -1,15 +1,11 @@
--- Claims, demand 2: rules 18 and 19 refuse exactly what is claimed twice. Assumes nothing.
+-- Claims, demand 2: rules 18 and 19 of any list refuse exactly what is claimed twice; of read's own answer see Answers.antt, `read-twice`.
+-- Assumes nothing.
 use Prim.Native.Nat.{ℕ, _<_}
-use mathlib.Core.List.{List, [], _∷_, _++_, List·Mem}
+use mathlib.Core.List.{List, _∷_, _++_, List·Mem}
 use mathlib.Core.Logic.{_↔_}
 use mathlib.Core.Path.{_≡_}
-use Rattle.pdi_spec.specs.{File.File, Verdict.Rule, Verdict.refused, Verdict.verdict, Verdict.Keeps, RuleList.rule1, RuleList.rule2, RuleList.rule18, RuleList.rule19, RuleList.readingRules, RuleList.plainRules, RuleList.withBuffer, Twice.PositionTwice, Twice.AddressTwice, Twice.SmallestMeeting}
+use Rattle.pdi_spec.specs.{File.File, Verdict.Rule, Verdict.refused, Verdict.verdict, Verdict.Keeps, RuleList.rule18, RuleList.rule19, RuleList.readingRules, Twice.PositionTwice, Twice.AddressTwice, Twice.SmallestMeeting}
 use Rattle.pdi_spec.specs.Laws
-
--- Read's list, and the host's, are of the form that the next three speak of.
-pub list-split : (least have : ℕ)
-    → withBuffer least have plainRules ≡ (rule1 ∷ rule2 least have ∷ readingRules) ++ (rule18 ∷ rule19 ∷ [])
-list-split = Laws.Plain.buffer-split
 
 -- With the rules before 18 kept, rules 3 to 17 among them, and only higher numbers after 19: refused with 18 exactly when some position is
 -- claimed twice, and then with p = 0.

@@ -1,11 +1,11 @@
 -- Claims, demand 3: loading, and the bill as a count of positions. Assumes nothing.
 use Prim.Native.Nat.{ℕ, _≤_}
 use mathlib.Core.Bool.{true}
-use mathlib.Core.List.{List, List·Mem}
+use mathlib.Core.List.{List, map, List·Mem}
 use mathlib.Core.Logic.{_↔_}
 use mathlib.Core.Path.{_≡_}
 use lib.ListN.{length}
-use Rattle.pdi_spec.specs.{File.File, File.partitions, Ranges.span, Ranges.loadRange, Ranges.loadsTo, Ranges.loads, Verdict.Rule, Verdict.accepted, Verdict.verdict, RuleList.rule15, RuleList.rule16, RuleList.rule18, RuleList.rule19, Answers.rowsAfter, Answers.billUnder, Answers.readAnswer, Answers.readRows, Answers.billAnswer, Stated.Stated, Stated.byHeaders, Stated.byRows, Stated.inSpans, Loading.Memory, Loading.Feed, Loading.Whole, Loading.Loaded, Loading.addressesWritten}
+use Rattle.pdi_spec.specs.{File.File, File.partitions, Ranges.span, Ranges.loadRange, Ranges.loadsTo, Ranges.loads, Verdict.Rule, Verdict.accepted, Verdict.verdict, RuleList.rule15, RuleList.rule16, RuleList.rule18, RuleList.rule19, Answers.rowsAfter, Answers.billUnder, Answers.readAnswer, Answers.readRows, Answers.billAnswer, Stated.Stated, Stated.byHeaders, Stated.byRows, Stated.loadable, Stated.inSpans, Loading.Memory, Loading.Feed, Loading.Whole, Loading.Loaded, Loading.addressesWritten}
 use Rattle.pdi_spec.specs.Laws.{Plain.plain}
 use Rattle.pdi_spec.specs.Laws
 
@@ -18,6 +18,11 @@ loading rs f = Laws.Stated.accepted-loads (Laws.Stated.headers-state f) rs
 pub loading-by-rows : (rs : List Rule) (f : File) (rows : List ℕ) → verdict rs f ≡ accepted → List·Mem rule16 rs → List·Mem rule19 rs
     → (m : Memory) (feeds : List Feed) → Whole (byRows (rowsAfter rs f rows)) feeds → Loaded (byRows (rowsAfter rs f rows)) m feeds
 loading-by-rows rs f rows e = Laws.Stated.accepted-loads (Laws.Rows.rows-state rs f rows e) rs e
+
+-- There is a whole list of any stated partitions, with any bytes of the right number for each, so loading is not claimed of nothing.
+pub whole-exists : (s : Stated) (chosen : ℕ → List ℕ) → ((p : ℕ) → length (chosen p) ≡ s .loadRange p .addresses .size)
+    → Whole s (map (λ (p : ℕ). record { partition = p; bytes = chosen p }) (loadable s))
+whole-exists = Laws.Loading.whole-exists
 
 -- The addresses written are those of the fed partitions' load ranges.
 pub addresses-are : (s : Stated) (feeds : List Feed) (address : ℕ)

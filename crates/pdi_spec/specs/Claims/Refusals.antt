@@ -2,7 +2,7 @@
 use Prim.Native.Nat.{ℕ, _/_, _%_, _≤_, _<_}
 use mathlib.Core.List.{List, [], _∷_, map, List·Mem}
 use mathlib.Core.Path.{_≡_}
-use Rattle.pdi_spec.specs.{Limits.mostPartitions, Limits.answerUnit, Limits.lastRule, Lists.numbers, File.File, Verdict.Rule, Verdict.refused, Verdict.verdict, RuleList.plainRules, RuleList.withoutBuffer, RuleList.withBuffer, RuleList.withRows, RuleList.withHostRows, Answers.answer, Answers.rowsAfter, Answers.billUnder, Answers.bodyUnder, Answers.readAnswer, Answers.readRows, Host.hostAnswer, Host.hostRows}
+use Rattle.pdi_spec.specs.{Limits.mostPartitions, Limits.answerUnit, Limits.lastRule, Lists.numbers, File.File, Verdict.Rule, Verdict.refused, Verdict.verdict, RuleList.plainRules, RuleList.withoutBuffer, RuleList.withBuffer, RuleList.withRows, RuleList.withHostRows, Answers.answer, Answers.rowsAfter, Answers.billUnder, Answers.bodyUnder}
 use Rattle.pdi_spec.specs.Laws
 
 -- A refusal's number is that of a rule of the list, which is tried at the refusal's p.
@@ -24,13 +24,14 @@ numbers-of-host = Laws.Plain.buffer-numbers _
 pub numbers-of-bill : map (λ (r : Rule). r .number) (withoutBuffer plainRules) ≡ 1 ∷ numbers 3 17
 numbers-of-bill = Laws.Plain.bill-numbers
 
--- A refusal's number is at most 19 and its p at most 32, with a row buffer ..
+-- A refusal's number is from 1 to 19 and its p at most 32, with a row buffer ..
 pub refusal-small : (least have : ℕ) (f : File) (k p : ℕ) → verdict (withBuffer least have plainRules) f ≡ refused k p
-    → (k ≤ lastRule) × (p ≤ mostPartitions)
+    → (1 ≤ k) × (k ≤ lastRule) × (p ≤ mostPartitions)
 refusal-small = Laws.Plain.buffer-small
 
 -- .. and without one.
-pub bill-refusal-small : (f : File) (k p : ℕ) → verdict (withoutBuffer plainRules) f ≡ refused k p → (k ≤ lastRule) × (p ≤ mostPartitions)
+pub bill-refusal-small : (f : File) (k p : ℕ) → verdict (withoutBuffer plainRules) f ≡ refused k p
+    → (1 ≤ k) × (k ≤ lastRule) × (p ≤ mostPartitions)
 bill-refusal-small = Laws.Plain.bill-small
 
 -- 64 × number + p tells number and p, as p is below 64.
@@ -48,11 +49,3 @@ refusal-bills-nothing = Laws.Answers.bill-refused
 -- It has no body.
 pub refusal-has-no-body : (rs : List Rule) (f : File) (k p : ℕ) → verdict rs f ≡ refused k p → (q : ℕ) → bodyUnder rs f q ≡ []
 refusal-has-no-body = Laws.Answers.body-refused
-
--- Read, refused, leaves the whole buffer.
-pub read-refused : (image : List ℕ) (place : ℕ) (rows : List ℕ) → (readAnswer image place rows ≡ 0 → ⊥) → readRows image place rows ≡ rows
-read-refused = Laws.Answers.read-refused plainRules
-
--- So does the host's read.
-pub host-refused : (image : List ℕ) (place : ℕ) (rows : List ℕ) → (hostAnswer image place rows ≡ 0 → ⊥) → hostRows image place rows ≡ rows
-host-refused = Laws.Answers.host-refused plainRules

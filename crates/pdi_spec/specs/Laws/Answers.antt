@@ -10,7 +10,7 @@ use lib.ListN.{length, take, drop, length-take, length-drop}
 use lib.Dec.{ltb}
 use lib.Seq.{take-take}
 use borrow.Author.Tests.{lt-ltb, le-ltb}
-use Rattle.pdi_spec.specs.{Limits.headWidth, Limits.rowWidth, Limits.bufferNumbers, Limits.numberBytes, Limits.bufferBytes, File.File, File.partitions, File.header, Ranges.span, Ranges.body, Verdict.Rule, Verdict.Outcome, Verdict.accepted, Verdict.refused, Verdict.verdict, RuleList.rule1, RuleList.withoutBuffer, RuleList.withRows, RuleList.withHostRows, RuleList.rule14, RuleList.rule15, Answers.answer, Answers.ifAccepted, Answers.head, Answers.headAndRows, Answers.written, Answers.rowsAfter, Answers.cut, Answers.asked, Answers.readBy, Answers.rowsBy, Answers.billBy, Answers.bodyBy, Answers.billed, Answers.billUnder, Answers.bodyUnder, Host.leBytes, Host.writtenBytes, Host.bytesAfter, Host.hostReadBy, Host.hostRowsBy, Stated.byRows, Stated.inSpans, Loading.Memory, Loading.Feed, Loading.Whole, Loading.Loaded, Supported.Supported, Rules.notFrom}
+use Rattle.pdi_spec.specs.{Limits.headWidth, Limits.rowWidth, Limits.bufferNumbers, Limits.numberBytes, Limits.bufferBytes, File.File, File.partitions, File.header, Ranges.Range, Ranges.span, Ranges.body, Verdict.Rule, Verdict.Outcome, Verdict.accepted, Verdict.refused, Verdict.verdict, RuleList.rule1, RuleList.withoutBuffer, RuleList.withRows, RuleList.withHostRows, RuleList.rule14, RuleList.rule15, Answers.answer, Answers.ifAccepted, Answers.head, Answers.headAndRows, Answers.written, Answers.rowsAfter, Answers.cut, Answers.asked, Answers.readBy, Answers.rowsBy, Answers.billBy, Answers.bodyBy, Answers.billed, Answers.billUnder, Answers.emptyPart, Answers.partUnder, Answers.bodyUnder, Host.leBytes, Host.writtenBytes, Host.bytesAfter, Host.hostReadBy, Host.hostRowsBy, Stated.byRows, Stated.inSpans, Loading.Memory, Loading.Feed, Loading.Whole, Loading.Loaded, Supported.Supported, Rules.notFrom}
 use Rattle.pdi_spec.specs.Laws.{Lists.flatMap-length, Refusals.answer-refused, Refusals.with-room, Refusals.few-partitions, Refusals.zero-accepted, Refusals.zero-accepts, Refusals.buffer-accepts, Rows.written-length, Rows.after-accepted, Rows.after-refused, Rows.length-after, Rows.rows-state, Stated.accepted-loads, Stated.accepted-bill, Tests.or-inl, Tests.or-inr, Verdict.accepted-kept, Kept.lengths-stated, Kept.span-stated}
 
 -- ---- bill
@@ -25,28 +25,42 @@ bill-refused rs f k p e = rw e refl
 
 -- ---- body
 
-pub body-refused : (rs : List Rule) (f : File) (k p : ℕ) → verdict rs f ≡ refused k p → (q : ℕ) → bodyUnder rs f q ≡ []
-unfolding bodyUnder ifAccepted
-body-refused rs f k p e q = rw e refl
+-- refused, there is no part
+pub part-refused : (rs : List Rule) (f : File) (k p : ℕ) → verdict rs f ≡ refused k p → (q : ℕ) → partUnder rs f q ≡ emptyPart
+unfolding partUnder ifAccepted
+part-refused rs f k p e q = rw e refl
 
--- of a p that isn't 1 to N there is nothing
-pub body-none : (rs : List Rule) (f : File) (p : ℕ) → (p < 1) ⊎ (partitions f < p) → bodyUnder rs f p ≡ []
-unfolding bodyUnder ifAccepted notFrom
-body-none rs f p h = go (verdict rs f)
+pub body-refused : (rs : List Rule) (f : File) (k p : ℕ) → verdict rs f ≡ refused k p → (q : ℕ) → bodyUnder rs f q ≡ []
+unfolding bodyUnder cut
+body-refused rs f k p e q = ap (λ (r : Range). cut r (f .bytes)) (part-refused rs f k p e q)
+
+-- of a p that isn't 1 to N there is none
+pub part-none : (rs : List Rule) (f : File) (p : ℕ) → (p < 1) ⊎ (partitions f < p) → partUnder rs f p ≡ emptyPart
+unfolding partUnder ifAccepted notFrom
+part-none rs f p h = go (verdict rs f)
   where
     outside : notFrom 1 (partitions f) p ≡ true
     outside =
         ⊎-elim (λ l. or-inl (ltb p 1) _ (lt-ltb p 1 l)) (λ l. or-inr (ltb p 1) (ltb (partitions f) p) (lt-ltb (partitions f) p l)) h
 
-    go : (o : Outcome) → ifAccepted o (cond (notFrom 1 (partitions f) p) [] (cut (body f p) (f .bytes))) [] ≡ []
+    go : (o : Outcome) → ifAccepted o (cond (notFrom 1 (partitions f) p) emptyPart (body f p)) emptyPart ≡ emptyPart
     go accepted = rw outside refl
     go (refused k q) = refl
 
--- where a list accepts, it is a part of the image
+pub body-none : (rs : List Rule) (f : File) (p : ℕ) → (p < 1) ⊎ (partitions f < p) → bodyUnder rs f p ≡ []
+unfolding bodyUnder cut
+body-none rs f p h = ap (λ (r : Range). cut r (f .bytes)) (part-none rs f p h)
+
+-- where a list accepts, it is the body of partition p
+pub part-accepted : (rs : List Rule) (f : File) → verdict rs f ≡ accepted → (p : ℕ) → 1 ≤ p → p ≤ partitions f
+    → partUnder rs f p ≡ body f p
+unfolding partUnder ifAccepted notFrom
+part-accepted rs f e p low high = rw (e, le-ltb p 1 low, le-ltb (partitions f) p high) refl
+
 pub body-accepted : (rs : List Rule) (f : File) → verdict rs f ≡ accepted → (p : ℕ) → 1 ≤ p → p ≤ partitions f
     → bodyUnder rs f p ≡ cut (body f p) (f .bytes)
-unfolding bodyUnder ifAccepted notFrom
-body-accepted rs f e p low high = rw (e, le-ltb p 1 low, le-ltb (partitions f) p high) refl
+unfolding bodyUnder
+body-accepted rs f e p low high = ap (λ (r : Range). cut r (f .bytes)) (part-accepted rs f e p low high)
 
 -- with rules 14 and 15 it is the first 4E bytes of the span, and as many
 pub body-under : (rs : List Rule) (f : File) → verdict rs f ≡ accepted → List·Mem rule14 rs → List·Mem rule15 rs
@@ -66,7 +80,7 @@ body-under rs f e m14 m15 p low high =
 -- ---- read and the host's read, of any question
 
 -- 8 bytes to a number
-le-length : (n number : ℕ) → length (leBytes n number) ≡ n
+pub le-length : (n number : ℕ) → length (leBytes n number) ≡ n
 unfolding leBytes
 le-length zero number = refl
 le-length (suc n) number = ap suc (le-length n (number / 256))
@@ -98,7 +112,7 @@ module _ {own : List Rule} (s : Supported own) (image : List ℕ) (place : ℕ) 
   abbrev f : File
   f = asked image place
 
-  listed : {r : Rule} → List·Mem r own → List·Mem r (withoutBuffer own)
+  pub listed : {r : Rule} → List·Mem r own → List·Mem r (withoutBuffer own)
   unfolding withoutBuffer
   listed m = mem-cons-of-mem rule1 m
 

@@ -105,3 +105,7 @@ pub every-mem : {A : Type 0} (P : A → Type 0) → ((x : A) → IsProp (P x)) �
 every-mem P prop [] h x m = absurd (not-mem-nil m)
 every-mem P prop (y ∷ ys) h x m =
     Or·elim (prop x) (eq-or-mem-of-mem-cons m) (λ e. subst P (sym e) (h .0)) (λ k. every-mem P prop ys (h .1) x k)
+
+pub every-append : {A : Type 0} (P : A → Type 0) (xs ys : List A) → Every P xs → Every P ys → Every P (xs ++ ys)
+every-append P [] ys h k = k
+every-append P (x ∷ xs) ys h k = (h .0, every-append P xs ys (h .1) k)

@@ -5,10 +5,10 @@ use native.Mathlib.Nat.{ℕ-set}
 use native.Mathlib.Bridge.{le-prop}
 use native.Mathlib.Omega.{arith}
 use mathlib.Core.Bool.{Bool, true, false, cond, Bool-set}
-use mathlib.Core.List.{List, [], _∷_, List·Mem, eq-or-mem-of-mem-cons, not-mem-nil, mem-cons-self, mem-cons-of-mem, mem-map-of-mem, Perm, Perm·symm, Perm·mem-iff, Perm·pairwise, Pairwise, Pairwise·nil, Pairwise·cons, Pairwise·imp, Pairwise·imp-of-mem, Pairwise·of-map, Pairwise·sublistᴰ, List·Nodup, Disjoint}
+use mathlib.Core.List.{List, [], _∷_, map, map-map, map-id, exists-of-mem-map, List·Mem, eq-or-mem-of-mem-cons, not-mem-nil, mem-cons-self, mem-cons-of-mem, mem-map-of-mem, Perm, Perm·refl, Perm·symm, Perm·mem-iff, Perm·pairwise, Pairwise, Pairwise·nil, Pairwise·cons, Pairwise·imp, Pairwise·imp-of-mem, Pairwise·of-map, Pairwise·sublistᴰ, List·Nodup, Disjoint}
 use mathlib.Core.Logic.{_↔_, _⊎_, inl, inr, Or·elim, ∥∥₁-elim, ∥∥₁-map, ∥∥₁-prop}
 use mathlib.Core.Path.{_≡_, refl, sym, _∙_, ap, fun-ext}
-use lib.ListN.{getD}
+use lib.ListN.{length, getD}
 use borrow.Author.Tests.{ltb-false}
 use Rattle.pdi_spec.specs.{Lists.numbers, Lists.anyOf, Ranges.endOf, Ranges.past, Ranges.LoadRange, Ranges.meet, Ranges.loadsTo, Ranges.addressSpace, Stated.Stated, Stated.partitionsOf, Stated.loadable, Loading.Memory, Loading.Feed, Loading.target, Loading.step, Loading.load, Loading.Whole, Loading.addressesWritten, Loading.Loaded}
 use Rattle.pdi_spec.specs.Laws.{Lists.those-sublist, Lists.mem-flatMap, Lists.flatMap-mem, Lists.nodup-flatMap, Tests.is-not-true, Tests.never-both, Tests.either, Tests.any-entry, Tests.none-entry, Tests.mem-numbers, Tests.numbers-mem, Tests.numbers-ascending, Tests.within-bounds, Tests.bounds-within, Tests.overlap-turned, Tests.apart}
@@ -170,3 +170,16 @@ addresses-are s feeds address = (
   λ m. ∥∥₁-map (mem-flatMap _ feeds m) (λ t. (t .0, t .1, listed (s .loadRange (t .0 .partition)) (t .2))),
   λ h. ∥∥₁-elim h ∥∥₁-prop (λ t. let b = within-bounds _ address (t .2) in flatMap-mem _ feeds (t .1) (numbers-mem _ _ (b .0) (b .1))),
 )
+
+-- whole lists exist: for each partition with a load address, as many bytes as it loads
+pub whole-exists : (s : Stated) (chosen : ℕ → List ℕ) → ((p : ℕ) → length (chosen p) ≡ s .loadRange p .addresses .size)
+    → Whole s (map (λ (p : ℕ). record { partition = p; bytes = chosen p }) (loadable s))
+unfolding target
+whole-exists s chosen h =
+    let feed : ℕ → Feed = λ p. record { partition = p; bytes = chosen p } in
+    let same : map (λ (d : Feed). d .partition) (map feed (loadable s)) ≡ loadable s =
+    map-map (λ (d : Feed). d .partition) feed (loadable s) ∙ map-id (loadable s) in
+    record {
+      each-once = rw same (Perm·refl (loadable s));
+      sized = λ d m. ∥∥₁-elim (exists-of-mem-map {f = feed} {l = loadable s} m) (ℕ-set _ _) (λ t. rw (← t .2) (h (t .0)));
+    }

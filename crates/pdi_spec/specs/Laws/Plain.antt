@@ -56,13 +56,15 @@ plain =
       well-tried = all-well plainRules plain-tried;
     }
 
--- ---- a refusal's number is at most 19, and its p at most 32
+-- ---- a refusal's number is from 1 to 19, and its p at most 32
 
 pub buffer-small : (least have : ℕ) (f : File) (k p : ℕ) → verdict (withBuffer least have plainRules) f ≡ refused k p
-    → (k ≤ lastRule) × (p ≤ mostPartitions)
+    → (1 ≤ k) × (k ≤ lastRule) × (p ≤ mostPartitions)
 buffer-small least have f k p e =
     let m = refusal-number (withBuffer least have plainRules) f k p e in
-    (omega (arith, mem-numbers 1 lastRule (rw (buffer-numbers least have) at m) .1), refusal-p plain least have f k p e)
+    let b = mem-numbers 1 lastRule (rw (buffer-numbers least have) at m) in
+    (b .0, omega (arith, b .1), refusal-p plain least have f k p e)
 
-pub bill-small : (f : File) (k p : ℕ) → verdict (withoutBuffer plainRules) f ≡ refused k p → (k ≤ lastRule) × (p ≤ mostPartitions)
+pub bill-small : (f : File) (k p : ℕ) → verdict (withoutBuffer plainRules) f ≡ refused k p
+    → (1 ≤ k) × (k ≤ lastRule) × (p ≤ mostPartitions)
 bill-small f k p e = buffer-small 0 0 f k p (with-room 0 0 plainRules f (omega arith) ∙ e)

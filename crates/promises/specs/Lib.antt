@@ -1,0 +1,3 @@
+-- The three demands, and the theorem that they hold. Assumes nothing.
+pub mod Demands
+pub mod Theorem

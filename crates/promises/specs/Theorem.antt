@@ -1,0 +1,95 @@
+-- The three demands hold: each sentence of Demands.antt by the claim of it, and by nothing else. Assumes nothing.
+use Prim.Native.Nat.{ℕ}
+use mathlib.Core.List.{List, mem-cons-of-mem}
+use mathlib.Core.Path.{_≡_, refl, ap}
+use lib.ListN.{length}
+use Rattle.pdi_spec.specs.Answers.{asked, billed, cut, rowsBy, bodyBy, readAnswer}
+use Rattle.pdi_spec.specs.Bench.{starred}
+use Rattle.pdi_spec.specs.Lists.{firstOf}
+use Rattle.pdi_spec.specs.Ranges.{Range, body, addressSpace}
+use Rattle.pdi_spec.specs.RuleList.{rule17, tableRules, headerRules, partitionRules, readingRules, clashRules, plainRules, withBuffer, withRows}
+use Rattle.pdi_spec.specs.Verdict.{once, each, eachAndTable, accepted, verdict, Kept, Keeps}
+use Rattle.pdi_spec.specs.Laws.Kept.{by-number}
+use Rattle.pdi_spec.specs.Claims
+use Rattle.promises.specs.Demands.{Demand1, Acceptance, Stating, Loading, Counting, Demands}
+
+refusals : Demand1
+refusals =
+    record {
+      read-refused = λ image place rows n. let t = Claims.Answers.read-refusal image place rows n in (t .0, t .1, t .2, t .3);
+      others-refused = λ image place rows n. Claims.Answers.read-refusal image place rows n .4;
+      host-refused = λ image place bytes n. let t = Claims.Answers.host-refusal image place bytes n in (t .0, t .1, t .2, t .3);
+    }
+
+acceptance : Acceptance
+unfolding starred
+acceptance =
+    record {
+      numbered = Claims.Refusals.numbers-of-read;
+      accepts = Claims.Answers.read-accepted-exactly;
+      refuses = Claims.Answers.read-refused-exactly;
+      claimed-twice = Claims.Answers.read-twice;
+      short = Claims.Answers.read-short;
+      host-answers = Claims.Answers.host-is-read;
+      host-beside-read = Claims.Answers.host-beside-read;
+      cases = (refl, Claims.Cases.starred-cases);
+    }
+
+-- an acceptance, as every rule is kept
+verdict-is : (image : List ℕ) (place : ℕ) (rows : List ℕ) → readAnswer image place rows ≡ 0
+    → verdict (withRows (length rows) plainRules) (asked image place) ≡ accepted
+verdict-is image place rows e =
+    Claims.Acceptance.accepted-exactly _ (asked image place) .1 (Claims.Answers.read-accepted-exactly image place rows .0 e)
+
+-- rule 17 is kept, as one of them
+blocks-kept : (image : List ℕ) (place : ℕ) (rows : List ℕ) → readAnswer image place rows ≡ 0 → Kept rule17 (asked image place)
+unfolding withRows withBuffer plainRules readingRules tableRules partitionRules headerRules clashRules firstOf once each eachAndTable Keeps
+blocks-kept image place rows e =
+    Claims.Answers.read-accepted-exactly image place rows .0 e rule17
+    (mem-cons-of-mem _ (mem-cons-of-mem _ (by-number 17 plainRules refl)))
+
+stating : Stating
+unfolding rowsBy bodyBy billed body cut
+stating =
+    record {
+      head = λ image place rows e. Claims.Rows.head-stated _ (asked image place) rows (verdict-is image place rows e);
+      row = λ image place rows e. Claims.Rows.row-stated _ (asked image place) rows (verdict-is image place rows e);
+      hash-entry = λ image place rows e p l h.
+          Claims.Rows.hash-entry-stated (asked image place) p l h (blocks-kept image place rows e);
+      rest = λ image place rows e. Claims.Rows.rest-untouched _ (asked image place) rows (verdict-is image place rows e);
+      as-long = Claims.Rows.buffer-as-long;
+      bill = λ image place rows e. Claims.Answers.read-states image place rows e .1;
+      fourth = Claims.Rows.fourth-is-bill;
+      bodies = λ image place rows e p l h.
+          let t = Claims.Answers.read-states image place rows e .2 p l h in
+          let long = Claims.Rows.body-answer-stated image place p (Claims.Acceptance.read-accepts image place rows .0 e .1) l h .1 in
+          (ap (λ (r : Range). r .start) (t .0), t .1, long);
+      no-body = λ image place p. Claims.Rows.no-such-body _ (asked image place) p;
+      host-rows = Claims.Answers.host-leaves-reads;
+    }
+
+loading : Loading
+unfolding addressSpace
+loading =
+    record {
+      loaded = λ image place rows e m feeds w. Claims.Memory.read-loads image place rows e m feeds w .yielded;
+      untouched = λ image place rows e m feeds w. Claims.Memory.read-loads image place rows e m feeds w .untouched;
+      one-memory = λ image place rows e m feeds others w. Claims.Memory.read-loads image place rows e m feeds w .any-order others;
+      once = λ image place rows e feeds w.
+          let t = Claims.Memory.read-loads image place rows e (λ address. 0) feeds w in
+          (t .once-each, t .inside);
+      written = Claims.Memory.addresses-are;
+      exists = Claims.Memory.whole-exists;
+    }
+
+counting : Counting
+counting =
+    record {
+      counted = Claims.Memory.read-counts;
+      host-counted = Claims.Answers.host-counts;
+      at-most = Claims.Answers.bill-at-most;
+    }
+
+pub demands : Demands
+demands =
+    record { refusals = refusals; acceptance = acceptance; stating = stating; loading = loading; counting = counting }
