@@ -5,6 +5,7 @@
 
 mod archive;
 mod bench_cases;
+mod checks;
 mod compare;
 mod damage;
 mod damage_blocks;
@@ -23,55 +24,27 @@ mod limits;
 mod memory;
 mod mistaken_rules;
 mod mistakes;
+mod options;
 mod plan;
 mod plan_partitions;
 mod random;
 mod reader;
 mod run;
+mod self_test;
 mod tally;
 
-use std::os::unix::process::ExitStatusExt;
-use std::process::{Command, ExitCode, Stdio};
+use std::process::ExitCode;
 
 use archive::{null_with_length_0, Archive, Subject};
 use bench_cases::{cases, checksums_as_printed};
+use checks::Checks;
 use compare::What;
 use large::Large;
-use memory::Region;
-use mistakes::{MISTAKES, RIGHT};
+use mistakes::RIGHT;
+use options::{parse, Options, HELP};
 use run::Feeder;
+use self_test::{self_test, touch_guard, SELF_TEST_IMAGES, TOUCH_GUARD};
 use tally::Tally;
-
-const HELP: &str = "usage: outside [--images N] [--seed S] [--first I] [--self-test]
-  --images N    how many generated images to compare (200000)
-  --seed S      the seed they are made from (20240229)
-  --first I     the number of the first one (0)
-  --self-test   look instead whether the comparison finds readers with known mistakes; no archive is asked
-A reading outside a lent image ends the program by a signal.";
-
-/// Within so many images each mistake must be found.
-const SELF_TEST_IMAGES: u64 = 20_000;
-const TOUCH_GUARD: &str = "--touch-guard";
-
-struct Options {
-    images: u64,
-    seed: u64,
-    first: u64,
-    self_test: bool,
-}
-
-#[derive(Default)]
-struct Checks {
-    passed: u32,
-    failed: u32,
-}
-
-impl Checks {
-    fn check(&mut self, name: &str, holds: bool) {
-        println!("{} {name}", if holds { "ok    " } else { "FAILED" });
-        if holds { self.passed += 1 } else { self.failed += 1 }
-    }
-}
 
 fn main() -> ExitCode {
     let arguments: Vec<String> = std::env::args().skip(1).collect();
@@ -80,9 +53,7 @@ fn main() -> ExitCode {
         return ExitCode::SUCCESS;
     }
     if arguments == [TOUCH_GUARD] {
-        // Asked for by the self-test, which wants to see this process stopped.
-        let byte = Region::new(1).map(|region| region.touch_guard());
-        println!("{byte:?}");
+        touch_guard();
         return ExitCode::SUCCESS;
     }
     let Some(options) = parse(&arguments) else {
@@ -95,23 +66,7 @@ fn main() -> ExitCode {
     } else {
         test_archive(&mut checks, &options);
     }
-    println!("{} passed, {} failed", checks.passed, checks.failed);
-    if checks.failed == 0 { ExitCode::SUCCESS } else { ExitCode::FAILURE }
-}
-
-fn parse(arguments: &[String]) -> Option<Options> {
-    let mut options = Options { images: 200_000, seed: 20_240_229, first: 0, self_test: false };
-    let mut rest = arguments.iter();
-    while let Some(argument) = rest.next() {
-        match argument.as_str() {
-            "--images" => options.images = rest.next()?.parse().ok()?,
-            "--seed" => options.seed = rest.next()?.parse().ok()?,
-            "--first" => options.first = rest.next()?.parse().ok()?,
-            "--self-test" => options.self_test = true,
-            _ => return None,
-        }
-    }
-    Some(options)
+    checks.finish()
 }
 
 fn test_archive(checks: &mut Checks, options: &Options) {
@@ -167,26 +122,4 @@ fn test_large(checks: &mut Checks) {
     let Some(mut large) = Large::new(&Archive) else { return checks.check("memory for the large images", false) };
     large.run();
     checks.check(&format!("large images: {}", large.images), large.failures == 0);
-}
-
-fn self_test(checks: &mut Checks, seed: u64) {
-    let found = |subject: &mistakes::Mistaken| {
-        let mut feeder = Feeder::new()?;
-        Some((0..SELF_TEST_IMAGES).find(|&index| feeder.feed(subject, seed, index).is_err()))
-    };
-    checks.check("no difference where there is no mistake", found(&RIGHT) == Some(None));
-    for mistake in &MISTAKES {
-        match found(mistake) {
-            Some(Some(index)) => checks.check(&format!("found in image {index}: {}", mistake.name), true),
-            _ => checks.check(&format!("not found: {}", mistake.name), false),
-        }
-    }
-    checks.check("an unreadable page stops a reading past the image", guard_stops());
-}
-
-/// Runs this program again to read past a region, and looks whether a signal ended it.
-fn guard_stops() -> bool {
-    let Ok(program) = std::env::current_exe() else { return false };
-    let status = Command::new(program).arg(TOUCH_GUARD).stdout(Stdio::null()).stderr(Stdio::null()).status();
-    status.is_ok_and(|status| status.signal().is_some())
 }
