@@ -21,7 +21,10 @@ pub struct Sample {
 pub fn make(random: &mut Random, buffer: Vec<u8>) -> Sample {
     let choice = random.below(100);
     let (mut image, mut aim) = match choice {
-        25..=64 => damaged(random, buffer),
+        25..=64 => {
+            let rule = random.between(1, LAST_RULE as u64);
+            damaged(random, rule, buffer)
+        }
         65..=71 => sharing(random, buffer),
         _ => (valid(random, Wish::default(), buffer), Aim::At(0, 0)),
     };
@@ -36,14 +39,13 @@ pub fn make(random: &mut Random, buffer: Vec<u8>) -> Sample {
     Sample { image, aim, as_planned: choice < 25, was_cut: choice >= 92 }
 }
 
-fn valid(random: &mut Random, wish: Wish, buffer: Vec<u8>) -> Image {
+pub fn valid(random: &mut Random, wish: Wish, buffer: Vec<u8>) -> Image {
     let plan = Plan::choose(random, wish);
     lay_out(random, plan, buffer, false).0
 }
 
 /// One rule broken, or just not broken. Where the image has nothing of the kind, another way is tried, and then another image.
-fn damaged(random: &mut Random, mut buffer: Vec<u8>) -> (Image, Aim) {
-    let rule = random.between(1, LAST_RULE as u64);
+pub fn damaged(random: &mut Random, rule: u64, mut buffer: Vec<u8>) -> (Image, Aim) {
     loop {
         let mut image = valid(random, wish(rule), buffer);
         for _ in 0..10 {

@@ -1,4 +1,5 @@
-//! Compares the C archive with an independent second reader, on the outline's bench cases, on generated images and on very large ones.
+//! Compares the C archive with an independent second reader, on the outline's bench cases, on generated images and on very large ones; and
+//! the program's print with the second reader's.
 //!
 //! Linked against the archive: rustc --edition 2021 -C opt-level=3 -L DIR -l static=pdi_host -o OUT main.rs
 //! Each named check counts one in the last line; the exit status is 0 only if none failed. Assumes 64-bit Linux.
@@ -15,24 +16,32 @@ mod damage_partition;
 mod damage_ranges;
 mod damage_table;
 mod edits;
+mod envelope_faults;
+mod envelopes;
 mod fields;
 mod images;
+mod inputs;
 mod large;
 mod layout;
 mod layout_words;
 mod limits;
 mod memory;
+mod mistaken_prints;
 mod mistaken_rules;
 mod mistakes;
 mod options;
 mod plan;
 mod plan_partitions;
+mod print;
+mod program;
 mod random;
+mod reached;
 mod reader;
 mod run;
 mod self_test;
 mod tally;
 
+use std::path::Path;
 use std::process::ExitCode;
 
 use archive::{null_with_length_0, Archive, Subject};
@@ -42,8 +51,9 @@ use compare::What;
 use large::Large;
 use mistakes::RIGHT;
 use options::{parse, Options, HELP};
+use program::run_all;
 use run::Feeder;
-use self_test::{self_test, touch_guard, SELF_TEST_IMAGES, TOUCH_GUARD};
+use self_test::{self_test, touch_guard, SELF_TEST_IMAGES, SELF_TEST_INPUTS, TOUCH_GUARD};
 use tally::Tally;
 
 fn main() -> ExitCode {
@@ -61,10 +71,10 @@ fn main() -> ExitCode {
         return ExitCode::from(2);
     };
     let mut checks = Checks::default();
-    if options.self_test {
-        self_test(&mut checks, options.seed);
-    } else {
-        test_archive(&mut checks, &options);
+    match &options.program {
+        _ if options.self_test => self_test(&mut checks, options.seed),
+        Some(program) => test_program(&mut checks, program, &options),
+        None => test_archive(&mut checks, &options),
     }
     checks.finish()
 }
@@ -116,6 +126,19 @@ fn test_reach(checks: &mut Checks, tally: &Tally) {
     checks.check("every deliberate damage reaches its rule and partition", tally.aimed == tally.hit);
     checks.check("valid images have the rows planned", tally.rows_as_planned > 0 && tally.rows_otherwise == 0);
     checks.check("no reading past an image: unreadable pages", tally.before_guard > 0 && tally.after_guard > 0);
+}
+
+fn test_program(checks: &mut Checks, program: &Path, options: &Options) {
+    println!("inputs of the program: {} from number {} on, seed {}", options.inputs, options.first, options.seed);
+    let reached = run_all(program, options);
+    reached.print();
+    checks.check(&format!("the program: {} inputs, all of them", reached.inputs), reached.inputs == options.inputs);
+    checks.check("the program: no difference in its output or its status", reached.differences == 0);
+    if options.inputs >= SELF_TEST_INPUTS {
+        checks.check("the program: every number, every kind of input and of image is hit", reached.is_whole());
+    } else {
+        println!("  under {SELF_TEST_INPUTS} inputs can't reach everything: not asked whether every kind is hit");
+    }
 }
 
 fn test_large(checks: &mut Checks) {
