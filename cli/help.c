@@ -11,7 +11,7 @@ static const char usage_body[] = "foliobriar body FILE P -o OUT [--place N|auto]
 static const char usage_explain[] = "foliobriar explain [NUMBER]\n";
 
 static const char place_option[] =
-    "  --place N        the table lies N bytes from the start of FILE; decimal or 0x hexadecimal, 0 if not given\n"
+    "  --place N        the table lies N bytes from the start of FILE; decimal or 0x hexadecimal; 0 is assumed if not given\n"
     "  --place auto     try every place; go on only if exactly one is accepted\n";
 static const char form_options[] =
     "  --tsv            a header line and plain decimal numbers between tabs, for programs\n"

@@ -40,11 +40,11 @@ bool next_candidate(const struct image *image, uint64_t from, struct candidate *
     return false;
 }
 
-struct search search_image(const struct image *image)
+struct search search_image(const struct image *image, uint64_t most)
 {
     struct search search = {0, 0, 0};
     struct candidate candidate;
-    for (uint64_t from = 0; next_candidate(image, from, &candidate); from = candidate.place + 4) {
+    for (uint64_t from = 0; search.candidates < most && next_candidate(image, from, &candidate); from = candidate.place + 4) {
         search.candidates++;
         if (pdi_number(candidate.answer) == PDI_ACCEPTED && search.accepting++ == 0)
             search.place = candidate.place;
@@ -59,10 +59,16 @@ const char *search_failure(const struct search *search)
     return search->accepting == 0 ? "no place is accepted" : "more than one place is accepted";
 }
 
+static void put_place(uint64_t place)
+{
+    fprintf(stderr, "place %" PRIu64 " (0x%" PRIx64 ")", place, place);
+}
+
 static void report_candidate(const struct image *image, const struct candidate *candidate)
 {
     start_line_about(image->name);
-    fprintf(stderr, "place %" PRIu64 " (0x%" PRIx64 "): ", candidate->place, candidate->place);
+    put_place(candidate->place);
+    fputs(": ", stderr);
     if (pdi_number(candidate->answer) == PDI_ACCEPTED)
         fputs("accepted\n", stderr);
     else
@@ -84,4 +90,39 @@ void report_search(const struct image *image, const struct search *search)
         fprintf(stderr, "%s, and foliobriar does not choose: give one with --place\n", search_failure(search));
     else
         fprintf(stderr, "refused: %s\n", search_failure(search));
+}
+
+/* Nobody asked for this search, so it ends early where somebody has filled an image with tables. */
+enum { MOST_TABLES = 1000 };
+
+static void report_accepting(const struct image *image, const struct search *search)
+{
+    bool several = search->accepting > 1;
+    fputs(several ? "more than one place that is accepted, first " : "the table at ", stderr);
+    put_place(search->place);
+    if (!several)
+        fprintf(stderr, ", where the image is accepted: billed bytes %" PRIu64, pdi_bill(image->bytes, image->length, search->place));
+    putc('\n', stderr);
+}
+
+/* Of tables that are refused only the first is told: --place auto lists them all. */
+void report_assumed_place(const struct image *image, uint64_t answer)
+{
+    struct search search = search_image(image, MOST_TABLES);
+    uint64_t at_0 = is_candidate(answer) ? 1 : 0;
+    struct candidate other;
+    start_line_about(image->name);
+    fputs("place 0 was assumed; --place auto finds ", stderr);
+    if (search.candidates == MOST_TABLES) {
+        fprintf(stderr, "%d tables or more\n", (int)MOST_TABLES);
+    } else if (search.accepting > 0) {
+        report_accepting(image, &search);
+    } else if (search.candidates > at_0 && next_candidate(image, 4, &other)) {
+        fputs("a table at ", stderr);
+        put_place(other.place);
+        fputs(", where the image is ", stderr);
+        end_line_with_refusal(other.answer);
+    } else {
+        fputs(at_0 == 0 ? "no table\n" : "no table at another place\n", stderr);
+    }
 }

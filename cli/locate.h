@@ -22,13 +22,16 @@ struct search {
 /* The first candidate at `from` or after it; `from` is a multiple of 4. */
 bool next_candidate(const struct image *image, uint64_t from, struct candidate *candidate);
 
-/* Tries the whole image. */
-struct search search_image(const struct image *image);
+/* Tries the whole image, or as far as the `most`th candidate. */
+struct search search_image(const struct image *image, uint64_t most);
 
 /* Says on standard error what a search found that didn't end in one place. */
 void report_search(const struct image *image, const struct search *search);
 
 /* Why such a search gives no place. */
 const char *search_failure(const struct search *search);
+
+/* Says on standard error, of an image that is refused at place 0 with this answer, that nobody gave the place, and what a search finds. */
+void report_assumed_place(const struct image *image, uint64_t answer);
 
 #endif

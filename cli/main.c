@@ -78,7 +78,7 @@ static enum status body(const struct request *request, const struct image *image
 /* Settles the place of --place auto. */
 static enum status find_place(const struct request *request, const struct image *image, uint64_t *place)
 {
-    struct search search = search_image(image);
+    struct search search = search_image(image, UINT64_MAX);
     if (search.accepting == 1) {
         *place = search.place;
         start_line_about(image->name);
@@ -95,7 +95,11 @@ static enum status refuse(const struct request *request, const struct image *ima
 {
     if (request->form == FORM_JSON)
         print_json_refusal(place, answer);
-    return report_refusal(image->name, answer);
+    enum status status = report_refusal(image->name, answer);
+    /* An image that is too long is refused at any place. */
+    if (request->assumed && image->length <= PDI_LONGEST_IMAGE)
+        report_assumed_place(image, answer);
+    return status;
 }
 
 /* Reads the image where the request says. Anything but an acceptance is reported here. */

@@ -148,6 +148,7 @@ bool parse_request(int count, char **words, struct request *request)
     memset(request, 0, sizeof *request);
     if (!take_words(&taken, request))
         return false;
+    request->assumed = (taken.given >> OPTION_PLACE & 1u) == 0;
     if (taken.operand_count > 0 && !find_command(taken.operands[0], &request->command))
         return false;
     if (request->help || request->version)

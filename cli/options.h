@@ -27,6 +27,7 @@ struct request {
     enum form form;
     bool search;                 /* --place auto; `place` is then to be found */
     uint64_t place;
+    bool assumed;                /* no --place was given, and `place` is 0 */
     const char *file;
     uint64_t partition;          /* P of body */
     const char *out;             /* OUT of body */

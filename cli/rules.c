@@ -23,10 +23,10 @@ static const struct rule rules[PDI_LAST_RULE + 1] = {
      "our call, or the file", "Where the table lies; whether the file was cut"},
     [PDI_TABLE_CHECKSUM] = {
      "The table's checksum is not the sum of its 31 words",
-     "table", "A fresh copy; whether the file was changed after it was made"},
+     "table", "Where the table lies, if no place was given; a fresh copy; whether the file was changed after it was made"},
     [PDI_TABLE_VERSION] = {
      "The version is not 0x00010000, or the kind is neither FPDI (full) nor PPDI (partial)",
-     "table", "Which tool made the image, and for which part"},
+     "table", "Where the table lies, if no place was given; which tool made the image, and for which part"},
     [PDI_TABLE_FIELDS] = {
      "There are not 1 to 32 images and 1 to 32 partitions; a header size is wrong; the optional words are no multiple of 4; "
      "or the reserved word 0x78 is not 0",

@@ -32,11 +32,11 @@ test_cases() {
 }
 
 test_refusal_line() {
-    call list two_clash.pdi
+    call list two_clash.pdi --place 0
     same "the line of a refusal" \
         "foliobriar: two_clash.pdi: refused: number 19, partition 2: The load range of partition p meets that of an earlier one" \
         "$(cat err)"
-    call list table_key.pdi
+    call list table_key.pdi --place 0
     same "the line of a refusal without a partition" \
         "foliobriar: table_key.pdi: refused: number 7: The table's key word is neither 0 nor one of the eight common keys" "$(cat err)"
 }

@@ -37,9 +37,9 @@ test_body_refused() {
         what="P $p of two, new file" && call body two.pdi "$p" -o fresh && in_trouble "the image has 2 partitions"
     done
     what="P 2 of one" && call body bench.pdi 2 -o made && in_trouble "the image has 1 partition,"
-    what="body of a refused image" && call body u_5.pdi 1 -o made && refused 14 1 && silent
-    what="body of a refused image, new file" && call body u_5.pdi 1 -o fresh && refused 14 1
-    what="body 2 of a refused image" && call body two_clash.pdi 2 -o - && refused 19 2 && silent
+    what="body of a refused image" && call body u_5.pdi 1 -o made && refused_at_0 14 1 "no table at another place" && silent
+    what="body of a refused image, new file" && call body u_5.pdi 1 -o fresh --place 0 && refused 14 1
+    what="body 2 of a refused image" && call body two_clash.pdi 2 -o - --place 0 && refused 19 2 && silent
     same "OUT is untouched" old "$(cat made)"
     check "no OUT is made" test ! -e fresh
     nothing_left

@@ -16,18 +16,30 @@ own_words() {
     ! grep -v -e '^foliobriar: ' -e '^Try `foliobriar --help`\.$' err
 }
 
-# accepted, refused NUMBER P, in_trouble PATTERN: what the last call has to have ended with. $what names the check.
+# accepted, refused NUMBER P, refused_at_0 NUMBER P FOUND, in_trouble PATTERN: what the last call has to have ended with. $what names the
+# check. A refusal at a place that nobody gave has a second line, which says what --place auto finds.
 accepted() {
     same "$what: status" 0 "$status"
     check "$what: standard error" own_words
 }
 
 refused() {
+    same "$what: one line on standard error" 1 "$(wc -l <err)"
+    first_line_refuses "$1" "$2"
+}
+
+refused_at_0() {
+    same "$what: two lines on standard error" 2 "$(wc -l <err)"
+    first_line_refuses "$1" "$2"
+    check "$what: auto finds '$3'" grep -qF ": place 0 was assumed; --place auto finds $3" <(tail -n 1 err)
+    check "$what: standard error is the command's own" own_words
+}
+
+first_line_refuses() {
     same "$what: status" 1 "$status"
     local about="number $1, partition $2:"
     [ "$2" -ne 0 ] || about="number $1:"
-    same "$what: one line on standard error" 1 "$(wc -l <err)"
-    check "$what: standard error has '$about'" grep -qF ": refused: $about " err
+    check "$what: standard error has '$about'" grep -qF ": refused: $about " <(head -n 1 err)
 }
 
 in_trouble() {

@@ -34,6 +34,6 @@ test_liar() {
     what="one bill" && LIAR_BILL=16 call bill bench.pdi && accepted
     same "$what" 16 "$(cat out)"
     local over=$((PDI_LAST_RULE + 1))
-    what="a number over the last" && LIAR_ANSWER=$((64 * over + 3)) call list bench.pdi && refused "$over" 3
+    what="a number over the last" && LIAR_ANSWER=$((64 * over + 3)) call list bench.pdi --place 0 && refused "$over" 3
     check "$what" grep -q 'A rule that this command does not know' err
 }

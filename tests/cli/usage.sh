@@ -74,11 +74,11 @@ test_files() {
     what="standard input from a file" && call bill /dev/stdin <bench.pdi && accepted
     same "$what: bill" 16 "$(cat out)"
     what="a file without a stated length" && call list /proc/self/status && in_trouble "states no length" && silent
-    what="empty file" && call list empty.pdi && refused 3 0 && silent
+    what="empty file" && call list empty.pdi && refused_at_0 3 0 "no table" && silent
     what="empty file, search" && call list empty.pdi --place auto
     same "$what: status" 1 "$status"
     same "$what: standard error" "foliobriar: empty.pdi: refused: no table found" "$(cat err)"
     cp both_twins_bad.pdi $'two\nlines\e[1m.pdi'
-    what="control characters in a name" && call list $'two\nlines\e[1m.pdi' && refused 6 0
+    what="control characters in a name" && call list $'two\nlines\e[1m.pdi' --place 0 && refused 6 0
     check "$what: shown as question marks" grep -qF 'two?lines?[1m.pdi' err
 }
