@@ -5,17 +5,9 @@
 #include <stdio.h>
 #include <string.h>
 
+#include "names.h"
 #include "pdi.h"
 #include "rules.h"
-
-/* A file may have any name. Control characters in it must neither split the line nor reach the terminal. */
-static void put_name(const char *name)
-{
-    for (; *name != '\0'; name++) {
-        unsigned char byte = (unsigned char)*name;
-        fputc(byte < 0x20 || byte == 0x7f ? '?' : byte, stderr);
-    }
-}
 
 void start_line_about(const char *name)
 {

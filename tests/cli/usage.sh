@@ -78,7 +78,4 @@ test_files() {
     what="empty file, search" && call list empty.pdi --place auto
     same "$what: status" 1 "$status"
     same "$what: standard error" "foliobriar: empty.pdi: refused: no table found" "$(cat err)"
-    cp both_twins_bad.pdi $'two\nlines\e[1m.pdi'
-    what="control characters in a name" && call list $'two\nlines\e[1m.pdi' --place 0 && refused 6 0
-    check "$what: shown as question marks" grep -qF 'two?lines?[1m.pdi' err
 }
