@@ -69,7 +69,8 @@ static const struct rule rules[PDI_LAST_RULE + 1] = {
      "passes the image, or its own index is not there exactly once. p = 0 is the table's own block",
      "header p, or table", "Which tool made the hash blocks"},
     [PDI_STORED_CLASH] = {
-     "Two stored parts share bytes that must not: headers, tables, data, or a hash block with one of them",
+     "Two stored parts share bytes that must not: headers, tables, data, a hash block with one of them, or two hash blocks that "
+     "are not the same",
      "the image", "How the image was put together"},
     [PDI_LOAD_CLASH] = {
      "The load range of partition p meets that of an earlier one",

@@ -100,29 +100,39 @@ at0 image says = record { image = image; place = 0; rows = 260; says = says }
 abbrev pub atPlace : ℕ → ℕ → Seen → Case
 atPlace place rows says = record { image = benchImage; place = place; rows = rows; says = says }
 
+-- The starred cases, each under document 01's own words for it.
 unfoldable pub starred : List Case
 starred =
-    -- "as given: accepted. * Empty image: 3. * Place 2: 3. * Place 208: 4; place 212: 3."
+    -- as given: accepted
     at0 benchImage (acceptedAt 1048576)
+    -- Empty image: 3
     ∷ at0 [] (refusedWith 3 0)
+    -- Place 2: 3
     ∷ atPlace 2 260 (refusedWith 3 0)
+    -- Place 208: 4
     ∷ atPlace 208 260 (refusedWith 4 0)
+    -- place 212: 3
     ∷ atPlace 212 260 (refusedWith 3 0)
-    -- "Rows of 259 and place 2: 2."
+    -- Rows of 259 and place 2: 2
     ∷ atPlace 2 259 (refusedWith 2 0)
-    -- "Partitions 0: 6; 33: 6. * Table key 0x5C3CA5A3: 7."
+    -- Partitions 0: 6
     ∷ at0 (edited ((0xC := 0) ∷ [])) (refusedWith 6 0)
+    -- 33: 6
     ∷ at0 (edited ((0xC := 33) ∷ [])) (refusedWith 6 0)
+    -- Table key 0x5C3CA5A3: 7
     ∷ at0 (edited ((0x40 := 0x5C3CA5A3) ∷ [])) (refusedWith 7 0)
-    -- "Next 48: 10, p 1. * Attribute type 0: 12."
+    -- Next 48: 10, p 1
     ∷ at0 (edited ((inHeader 0xC := 48) ∷ [])) (refusedWith 10 1)
+    -- Attribute type 0: 12
     ∷ at0 (edited ((inHeader 0x24 := 0x00000001) ∷ [])) (refusedWith 12 1)
-    -- "U = 5: 14. * T = 5: 15."
+    -- U = 5: 14
     ∷ at0 (edited ((inHeader 0x4 := 5) ∷ [])) (refusedWith 14 1)
+    -- T = 5: 15
     ∷ at0 (edited ((inHeader 0x8 := 5) ∷ [])) (refusedWith 15 1)
-    -- "Load high 0xFFFFFFFF, low 0xFFFFFFF0: accepted; low 0xFFFFFFF1: 16."
+    -- Load high 0xFFFFFFFF, low 0xFFFFFFF0: accepted
     ∷ at0 (edited ((inHeader 0x1C := 0xFFFFFFFF) ∷ (inHeader 0x18 := 0xFFFFFFF0) ∷ [])) (acceptedAt 0xFFFFFFFFFFFFFFF0)
+    -- low 0xFFFFFFF1: 16
     ∷ at0 (edited ((inHeader 0x1C := 0xFFFFFFFF) ∷ (inHeader 0x18 := 0xFFFFFFF1) ∷ [])) (refusedWith 16 1)
-    -- "D = 79: 18."
+    -- D = 79: 18
     ∷ at0 (edited ((inHeader 0x20 := 79) ∷ [])) (refusedWith 18 0)
     ∷ []
