@@ -1,5 +1,5 @@
-"""Writes the input of the program `bench_cases`: every case of document 01's "The bench image", starred or not, and cases at the reader's
-edges. Its file `stdin` holds what this writes, and its file `stdout` what document 01 says of each.
+"""Writes the input of the program `bench_cases`: every case of document 01's "The bench image", starred or not, cases at the reader's
+edges, and full images, whose boot header is too long to compute in crates/pdi_cases. Its file `stdin` holds what this writes, and its file `stdout` what document 01 says of each.
 
 A case is its name, padded with spaces to 32 bytes; the image's length, the numbers in the row buffer and the p whose body is asked for, 4
 bytes each; the table place, 8 bytes; all little-endian; and the image. The limits are those of pdi.h, from the environment (limits.sh).
@@ -11,6 +11,8 @@ import sys
 
 sys.dont_write_bytecode = True  # nothing is left beside the sources
 from bench_image import HEADER, MOST, TABLE, bench, edited, two, with_block
+from headers import put, seal, seal_boot_header
+from images import full
 
 ENOUGH = int(os.environ["PDI_ROWS_NUMBERS"])
 
@@ -60,3 +62,29 @@ case("block_index_2", with_block(2))
 case("block_length_52", with_block(1, 52))
 case("second_load_00100010", two(0x00100010), p=2)
 case("second_load_0010000F", two(0x0010000F), p=2)
+
+
+BOOT = 4416  # the size of a boot header: the table's place, right behind it
+
+
+def full_word(name, offset, value, sealed=True):
+    """A full image with a word changed and its checksums put right, but where asked the boot header's left as it was."""
+    image = full(BOOT)
+    put(image, offset, value)
+    seal(image, BOOT + TABLE)
+    seal(image, BOOT + HEADER)
+    if sealed:
+        seal_boot_header(image)
+    case(name, image, BOOT)
+
+
+case("full", full(BOOT), BOOT)
+full_word("full_first_bytes", 0xC, 0xFFFFFFFF, sealed=False)
+full_word("full_sum_of_1098_words", 0x1138, 1, sealed=False)
+full_word("full_sum_of_1099_words", 0x1138, 1)
+full_word("full_width_AA995567", 0x10, 0xAA995567)
+full_word("full_table_key_A5C3C5A3", BOOT + TABLE + 0x40, 0xA5C3C5A3)
+full_word("full_source_4415", 0x1C, 4415)
+full_word("full_plm_total_336", 0x30, 336)
+full_word("full_plm_total_337", 0x30, 337)
+full_word("full_data_1100", BOOT + HEADER + 0x20, 1100)

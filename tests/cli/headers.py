@@ -29,8 +29,12 @@ def put_header(image, at, *, lengths, data, load, attributes=0x04000001, followi
     seal(image, at)
 
 
+def seal_boot_header(image):
+    put(image, 0x113C, -sum(struct.unpack_from("<1099I", image, 0x10)) & 0xFFFFFFFF)
+
+
 def put_boot_header(image, plm_total=16):
     put(image, 0x10, 0xAA995566)
     image[0x14:0x18] = b"XNLX"
     put(image, 0x18, 0, 4416, 0, 4, 4, 16, plm_total)
-    put(image, 0x113C, -sum(struct.unpack_from("<1099I", image, 0x10)) & 0xFFFFFFFF)
+    seal_boot_header(image)
