@@ -1,5 +1,6 @@
 # make run: proves and builds the reader and the command, and lists an image. `IMAGE` is any image, `PLACE` its table place, or auto.
 # make test: the gate. Its last line is 'N passed, 0 failed'. `SEED` and `IMAGES` are those of the generated images.
+# make program: the program of document 01, target/bin/pdi, with an exit status.
 # make bench: what reading costs. make cli: the command alone. make install PREFIX=..: command, header, archive, pkg-config file, man page.
 IMAGE = examples/bench.pdi
 PLACE = auto
@@ -20,6 +21,7 @@ override export PREFIX := $(value PREFIX)
 override export DESTDIR := $(value DESTDIR)
 
 ARCHIVE = target/staticlib/libpdi_host.a
+PROGRAM_ARCHIVE = target/staticlib/libprogram.a
 PROVED := $(shell find crates -name '*.rt' -o -name '*.antt')
 CLI_VERSION := $(shell cat cli/VERSION)
 CLI_SOURCES := $(wildcard cli/*.c)
@@ -28,7 +30,7 @@ CLI_FLAGS = -std=c11 -D_XOPEN_SOURCE=700 -D_FILE_OFFSET_BITS=64 -DFOLIOBRIAR_VER
 	-Wall -Wextra -Werror -pedantic -Wconversion -Wshadow
 OUTSIDE_FLAGS = --edition 2021 -C opt-level=3 -D warnings -L target/staticlib -l static=pdi_host
 
-.PHONY: run test bench cli cli-checked outside install uninstall
+.PHONY: run test program bench cli cli-checked outside install uninstall
 run: target/cli/foliobriar
 	@target/cli/foliobriar list --place="$$PLACE" -- "$$IMAGE"
 
@@ -44,6 +46,15 @@ outside: target/outside/outside
 
 $(ARCHIVE): crates.txt $(PROVED)
 	rt staticlib pdi_host >&2
+
+$(PROGRAM_ARCHIVE): crates.txt $(PROVED)
+	rt staticlib program >&2
+
+# A `main` of the language has no exit status, and `rt` writes target/bin/pdi with such a one, so it is always linked anew, with `pdi_run`
+# of the archive as its main.
+program: $(PROGRAM_ARCHIVE)
+	@mkdir -p target/bin
+	$(CC) -Wl,--defsym=main=pdi_run -Wl,-u,pdi_run $(PROGRAM_ARCHIVE) $(LDFLAGS) -o target/bin/pdi
 
 target/cli/foliobriar: $(CLI_INPUTS)
 	@mkdir -p $(@D)

@@ -1,5 +1,6 @@
 """Writes the input of the program `bench_cases`: every case of document 01's "The bench image", starred or not, cases at the reader's
-edges, and full images, whose boot header is too long to compute in crates/pdi_cases. Its file `stdin` holds what this writes, and its file `stdout` what document 01 says of each.
+edges, and full images, whose boot header is too long to compute in crates/pdi_cases. Its file `stdin` holds what this writes, and its file
+`stdout` what document 01 says of each.
 
 A case is its name, padded with spaces to 32 bytes; the image's length, the numbers in the row buffer and the p whose body is asked for, 4
 bytes each; the table place, 8 bytes; all little-endian; and the image. The limits are those of pdi.h, from the environment (limits.sh).
@@ -62,7 +63,6 @@ case("block_index_2", with_block(2))
 case("block_length_52", with_block(1, 52))
 case("second_load_00100010", two(0x00100010), p=2)
 case("second_load_0010000F", two(0x0010000F), p=2)
-
 
 BOOT = 4416  # the size of a boot header: the table's place, right behind it
 

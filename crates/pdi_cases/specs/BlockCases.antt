@@ -5,7 +5,7 @@ use mathlib.Core.List.{List, [], _∷_, _++_, map}
 use lib.ListN.{take}
 use Rattle.pdi_spec.specs.Bench.{Edit, _:=_, inHeader}
 use Rattle.pdi_cases.specs.Images.{longer, edited, words, behind, behindWord, twoPartitions}
-use Rattle.pdi_cases.specs.Cases.{Trial, breaks, keeps, Told, Whole, at0, refusedWith, listing, row, withRow, asGiven}
+use Rattle.pdi_cases.specs.Cases.{Trial, breaks, keeps, Answered, ImageCase, at0, refusedWith, listing, row, withRow, asGiven}
 
 -- the length in bytes and the offset in words of a hash block, in the table or header at an offset
 abbrev block : ℕ → ℕ → ℕ → List Edit
@@ -56,11 +56,11 @@ tableBlockCases =
     ∷ [])
 
 -- accepted, with that hash entry in the row
-abbrev entryAt : ℕ → Told
+abbrev entryAt : ℕ → Answered
 entryAt at = withRow (row 0x00100000 0 0 at 0x04000001)
 
 -- "byte offset of its hash entry (0 if none)"
-unfoldable pub entryCases : List Whole
+unfoldable pub entryCases : List ImageCase
 entryCases =
     at0 (partitionBlock 64 16 (index 0 1 ∷ [])) (entryAt 336)
     ∷ at0 (partitionBlock 64 16 (index 0 2 ∷ [])) (refusedWith 17 1)

@@ -36,33 +36,33 @@ keeps number images = map (λ (i : List ℕ). record { image = i; number = numbe
 -- ---- all rules: an image, a place and a row buffer's length, and what document 01 says of read's answer and the numbers it writes, the
 -- bill among them
 
-pub record Told : Type 0 where
+pub record Answered : Type 0 where
   pub answers : ℕ
   pub writes : List ℕ
 
-pub record Whole : Type 0 where
+pub record ImageCase : Type 0 where
   pub image : List ℕ
   pub place : ℕ
   pub rows : ℕ
-  pub says : Told
+  pub says : Answered
 
 -- as `readAnswer` and `written`, the verdict computed once
-unfoldable pub told : Whole → Told
+unfoldable pub answered : ImageCase → Answered
 unfolding computed
-told c =
+answered c =
     let f = asked (c .image) (c .place) in
     let outcome = verdict (withRows (c .rows) plainRules) f in
     record { answers = answer outcome; writes = ifAccepted outcome (headAndRows f) [] }
 
 -- at place 0 with rows enough
-abbrev pub at0 : List ℕ → Told → Whole
+abbrev pub at0 : List ℕ → Answered → ImageCase
 at0 image says = record { image = image; place = 0; rows = 260; says = says }
 
-abbrev pub refusedWith : ℕ → ℕ → Told
+abbrev pub refusedWith : ℕ → ℕ → Answered
 refusedWith number p = record { answers = 64 * number + p; writes = [] }
 
 -- accepted, partial, with one partition: the images, the bill and the row
-abbrev pub listing : ℕ → ℕ → List ℕ → Told
+abbrev pub listing : ℕ → ℕ → List ℕ → Answered
 listing images bill row = record { answers = 0; writes = 2 ∷ images ∷ 1 ∷ bill ∷ row }
 
 -- the bench image's row, with this load address, execution address, key word, hash entry and attribute word; and as given
@@ -73,8 +73,8 @@ abbrev pub rowAsGiven : List ℕ
 rowAsGiven = row 0x00100000 0 0 0 0x04000001
 
 -- the bench image's listing with another row, and as given
-abbrev pub withRow : List ℕ → Told
+abbrev pub withRow : List ℕ → Answered
 withRow numbers = listing 1 16 numbers
 
-abbrev pub asGiven : Told
+abbrev pub asGiven : Answered
 asGiven = withRow rowAsGiven

@@ -14,7 +14,7 @@ use Rattle.pdi_spec.specs.Answers.{answer, asked}
 use Rattle.pdi_spec.specs.Bench.{Edit, _:=_, benchImage}
 use Rattle.pdi_spec.specs.Laws.Bench.{opened}
 use Rattle.pdi_cases.specs.Images.{benchWords, bytesOf, set, edited}
-use Rattle.pdi_cases.specs.Cases.{computed, Trial, tried, breaks, keeps, Whole, told}
+use Rattle.pdi_cases.specs.Cases.{computed, Trial, tried, breaks, keeps, ImageCase, answered}
 use Rattle.pdi_cases.specs.TableCases.{placeCases, tableSumCases, kindCases, fieldCases, tableKeyCases, imageHeaderCases}
 use Rattle.pdi_cases.specs.BootCases.{BootCase, bootCases}
 use Rattle.pdi_cases.specs.HeaderCases.{headerCases, chainCases, headerSumCases, attributeCases, keyCases, lengthCases, spanCases}
@@ -91,8 +91,8 @@ boot-cases image long sum = rw sum (rw long)
 
 -- ---- the other rules
 
-pub place-cases : map told placeCases ≡ map (λ (c : Whole). c .says) placeCases
-unfolding told placeCases
+pub place-cases : map answered placeCases ≡ map (λ (c : ImageCase). c .says) placeCases
+unfolding answered placeCases
 place-cases = refl
 
 pub table-sum-cases : map tried tableSumCases ≡ map (λ (c : Trial). c .says) tableSumCases
@@ -115,8 +115,8 @@ pub image-header-cases : map tried imageHeaderCases ≡ map (λ (c : Trial). c .
 unfolding tried breaks keeps imageHeaderCases
 image-header-cases = refl
 
-pub header-cases : map told headerCases ≡ map (λ (c : Whole). c .says) headerCases
-unfolding told headerCases
+pub header-cases : map answered headerCases ≡ map (λ (c : ImageCase). c .says) headerCases
+unfolding answered headerCases
 header-cases = refl
 
 pub chain-cases : map tried chainCases ≡ map (λ (c : Trial). c .says) chainCases
@@ -151,8 +151,8 @@ pub load-cases : map tried loadCases ≡ map (λ (c : Trial). c .says) loadCases
 unfolding tried breaks keeps loadedAt loadCases
 load-cases = refl
 
-pub address-cases : map told addressCases ≡ map (λ (c : Whole). c .says) addressCases
-unfolding told loadedAt addressCases
+pub address-cases : map answered addressCases ≡ map (λ (c : ImageCase). c .says) addressCases
+unfolding answered loadedAt addressCases
 address-cases = refl
 
 pub load-clash-cases : map tried loadClashCases ≡ map (λ (c : Trial). c .says) loadClashCases
@@ -167,8 +167,8 @@ pub table-block-cases : map tried tableBlockCases ≡ map (λ (c : Trial). c .sa
 unfolding tried breaks keeps tableBlock tableBlockCases
 table-block-cases = refl
 
-pub entry-cases : map told entryCases ≡ map (λ (c : Whole). c .says) entryCases
-unfolding told partitionBlock tableBlock entryCases
+pub entry-cases : map answered entryCases ≡ map (λ (c : ImageCase). c .says) entryCases
+unfolding answered partitionBlock tableBlock entryCases
 entry-cases = refl
 
 pub clash-cases : map tried clashCases ≡ map (λ (c : Trial). c .says) clashCases

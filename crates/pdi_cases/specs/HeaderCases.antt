@@ -5,12 +5,12 @@ use mathlib.Core.List.{List, [], _∷_, _++_}
 use lib.ListN.{take}
 use Rattle.pdi_spec.specs.Bench.{_:=_, inHeader}
 use Rattle.pdi_cases.specs.Images.{longer, edited, unsealed, words, behind, behindWord, twoPartitions}
-use Rattle.pdi_cases.specs.Cases.{Trial, breaks, keeps, Whole, at0, refusedWith, listing, row, withRow}
+use Rattle.pdi_cases.specs.Cases.{Trial, breaks, keeps, ImageCase, at0, refusedWith, listing, row, withRow}
 
 -- "The lowest broken number is answered, with the smallest p that breaks it. A rule is tried only if all lower ones hold for every
 -- partition." The second of two partitions breaks 10, and 12 with the first or alone; the first breaks 12 and the second 14.
 -- "Span: T words from D. Body: its first E words. Loaded bytes: 4U. Billed: 4 × the sum of all T."
-unfoldable pub headerCases : List Whole
+unfoldable pub headerCases : List ImageCase
 headerCases =
     at0 (twoPartitions [])
     (record {

@@ -4,7 +4,7 @@ use Prim.Native.Nat.{ℕ, _+_}
 use mathlib.Core.List.{List, [], _∷_, _++_, flatMap}
 use Rattle.pdi_spec.specs.Bench.{Edit, _:=_, inHeader}
 use Rattle.pdi_cases.specs.Images.{edited, behind, twoPartitions}
-use Rattle.pdi_cases.specs.Cases.{Trial, breaks, keeps, Whole, at0, refusedWith, row, withRow}
+use Rattle.pdi_cases.specs.Cases.{Trial, breaks, keeps, ImageCase, at0, refusedWith, row, withRow}
 
 -- an attribute word, and the halves of a load address, in the header at an offset: "load address 0x18 and 0x1C", the low half first
 abbrev loaded : ℕ → ℕ → ℕ → ℕ → List Edit
@@ -40,7 +40,7 @@ loadCases =
     ++ breaks 16 1 (edited ((inHeader 0x4 := 1) ∷ loaded (inHeader 0) 0x04000001 0xFFFFFFFF 0xFFFFFFFD) ∷ [])
 
 -- The addresses in a row: "execution address 0x10 low and 0x14 high", and the load address, whether it has a load range or not.
-unfoldable pub addressCases : List Whole
+unfoldable pub addressCases : List ImageCase
 addressCases =
     at0 (edited ((inHeader 0x10 := 3) ∷ (inHeader 0x14 := 5) ∷ [])) (withRow (row 0x00100000 0x0000000500000003 0 0 0x04000001))
     ∷ at0 (loadedAt 0x05000001 7 9) (withRow (row 0x0000000700000009 0 0 0 0x05000001))

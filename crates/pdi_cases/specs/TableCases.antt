@@ -5,18 +5,18 @@ use mathlib.Core.List.{List, [], _∷_, _++_}
 use lib.ListN.{take}
 use Rattle.pdi_spec.specs.Bench.{_:=_}
 use Rattle.pdi_cases.specs.Images.{longer, edited, unsealed, words, behind, behindWord, tableBehind}
-use Rattle.pdi_cases.specs.Cases.{Trial, breaks, keeps, Told, Whole, at0, refusedWith, listing, rowAsGiven, asGiven}
+use Rattle.pdi_cases.specs.Cases.{Trial, breaks, keeps, Answered, ImageCase, at0, refusedWith, listing, rowAsGiven, asGiven}
 
 -- the bench image at a place, and the image with the table behind it
-abbrev atPlace : ℕ → ℕ → Told → Whole
+abbrev atPlace : ℕ → ℕ → Answered → ImageCase
 atPlace place rows says = record { image = edited []; place = place; rows = rows; says = says }
 
-abbrev atBehind : List ℕ → Told → Whole
+abbrev atBehind : List ℕ → Answered → ImageCase
 atBehind image says = record { image = image; place = behind; rows = 260; says = says }
 
 -- 2: "row buffer under 260 numbers". 3: "table place not a multiple of 4, or place + 128 past the image".
 -- 9: "optional data or image headers past the image". "Optional data follow the table directly".
-unfoldable pub placeCases : List Whole
+unfoldable pub placeCases : List ImageCase
 placeCases =
     atPlace 0 259 (refusedWith 2 0)
     ∷ atPlace 0 261 asGiven

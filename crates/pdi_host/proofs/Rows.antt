@@ -2,25 +2,13 @@
 -- what the host's row buffer takes, 8 bytes to a number. Assumes nothing.
 use Prim.Native.Nat.{ℕ, _+_, _*_, _≤_, _<_}
 use native.Mathlib.Omega.{arith}
-use mathlib.Core.Bool.{Bool}
 use mathlib.Core.List.{List, [], _∷_, _++_}
 use mathlib.Core.Path.{_≡_, sym, _∙_, ap, ap₂}
-use lib.Dec.{ltb, lit<}
 use lib.ListN.{length, take, drop, getD}
 use lib.Seq.{sets, take-at}
-use borrow.Author.Tests.{lt-ltb}
-use Rattle.pdi_spec.specs.{Limits.mostPartitions, Limits.headWidth, Limits.rowWidth, Limits.bufferNumbers, Limits.bufferBytes, Limits.numberBytes, File.File, File.partitions, Verdict.Rule, Verdict.once, Verdict.verdict, Verdict.accepted, Rules.bufferTooShort, RuleList.rule1, RuleList.withBuffer, RuleList.withRows, RuleList.withHostRows, Answers.answer, Answers.asked, Answers.headAndRows, Answers.readBy, Answers.rowsBy, Host.hostReadBy, Host.hostRowsBy, Stated.byRows, Supported.Supported}
-use Rattle.pdi_spec.specs.Laws.{Answers.host-accepts, Answers.host-same, Answers.host-refused, Answers.host-rows, Answers.read-accepts, Answers.read-length, Answers.read-verdict, Refusals.few-partitions, Rows.written-length, Rows.after-accepted, Rows.rows-state}
+use Rattle.pdi_spec.specs.{Limits.headWidth, Limits.rowWidth, Limits.bufferNumbers, Limits.bufferBytes, Limits.numberBytes, File.File, File.partitions, Verdict.Rule, Verdict.verdict, Verdict.accepted, RuleList.withRows, Answers.asked, Answers.headAndRows, Answers.readBy, Answers.rowsBy, Host.hostReadBy, Host.hostRowsBy, Supported.Supported}
+use Rattle.pdi_spec.specs.Laws.{Answers.host-accepts, Answers.host-same, Answers.host-refused, Answers.host-rows, Answers.read-length, Answers.read-verdict, Answers.count-written, Answers.rows-fit, Questions.host-beside, Rows.written-length, Rows.after-accepted}
 use Rattle.pdi_host.proofs.Buffers.{bytesOf, whole}
-
--- rule 2 broken for both
-both-short : (own : List Rule) (image : List ℕ) (place : ℕ) (rows bytes : List ℕ) → length rows < bufferNumbers
-    → length bytes < bufferBytes → hostReadBy own image place bytes ≡ readBy own image place rows
-unfolding hostReadBy readBy withHostRows withRows withBuffer bufferTooShort
-both-short own image place rows bytes h k =
-    ap (λ (b : Bool). answer (verdict (rule1 ∷ once 2 (λ g. b) ∷ own) (asked image place)))
-    {x = ltb (length bytes) bufferBytes} {y = ltb (length rows) bufferNumbers}
-    (lt-ltb (length bytes) bufferBytes k ∙ sym (lt-ltb (length rows) bufferNumbers h))
 
 module _ {own : List Rule} (s : Supported own) (image : List ℕ) (place : ℕ) where
   abbrev f : File
@@ -33,15 +21,11 @@ module _ {own : List Rule} (s : Supported own) (image : List ℕ) (place : ℕ) 
     accepted-by = read-verdict s image place rows (sym er ∙ z)
 
     count : getD numbers 2 0 ≡ partitions f
-    unfolding rowsBy byRows
-    count = ap (λ (l : List ℕ). getD l 2 0) en ∙ rows-state _ f rows accepted-by .same-count
-
-    few : partitions f ≤ mostPartitions
-    few = few-partitions s f (read-accepts s image place rows .0 (sym er ∙ z) .1)
+    count = ap (λ (l : List ℕ). getD l 2 0) en ∙ count-written s image place rows (sym er ∙ z)
 
     -- as many numbers as a row buffer has, and not more of them written
     pub numbers-few : (length numbers ≡ bufferNumbers) × (headWidth + rowWidth * getD numbers 2 0 ≤ bufferNumbers)
-    numbers-few = (ap length en ∙ read-length s image place rows ∙ size, omega (arith, count, few))
+    numbers-few = (ap length en ∙ read-length s image place rows ∙ size, rw en (rows-fit s image place rows (sym er ∙ z)))
 
     -- those are the head and the rows
     taken : take (headWidth + rowWidth * getD numbers 2 0) numbers ≡ headAndRows f
@@ -57,7 +41,7 @@ module _ {own : List Rule} (s : Supported own) (image : List ℕ) (place : ℕ) 
     -- a buffer that is too short
     pub short-answers : length bytes < bufferBytes → {r : ℕ} → r ≡ readBy own image place (0 ∷ []) → Answers r bytes
     short-answers h e = (
-      e ∙ sym (both-short own image place (0 ∷ []) bytes (lit< tt) h),
+      e ∙ sym (host-beside own image place (0 ∷ []) bytes (λ one. absurd (omega (arith, one)), λ two. absurd (omega (arith, two, h)))),
       sym (host-refused own image place bytes (λ z. absurd (omega (arith, host-accepts s image place bytes .0 z .0)))),
     )
 
@@ -76,7 +60,7 @@ module _ {own : List Rule} (s : Supported own) (image : List ℕ) (place : ℕ) 
         same-answer,
         ea
             ∙ ap (λ (l : List ℕ). sets bytes 0 (bytesOf l)) (taken rows size er z en)
-            ∙ whole (headAndRows f) bytes (omega (arith, written-length f, few rows size er z en))
+            ∙ whole (headAndRows f) bytes (omega (arith, written-length f, numbers-few rows size er z en .1, count rows size er z en))
             ∙ ap (λ (n : ℕ). bytesOf (headAndRows f) ++ drop (numberBytes * n) bytes) (written-length f)
             ∙ sym (host-rows s image place bytes (sym same-answer ∙ z)),
       )

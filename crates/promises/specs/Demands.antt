@@ -14,7 +14,7 @@ use Rattle.pdi_spec.specs.File.{File, table, partitions, partitionNumbers, head
 use Rattle.pdi_spec.specs.HashBlock.{noBlock, entriesIn}
 use Rattle.pdi_spec.specs.Host.{hostNumbers, hostAnswer, hostRows}
 use Rattle.pdi_spec.specs.Lists.{numbers, sumOf}
-use Rattle.pdi_spec.specs.Loading.{Memory, Feed, target, load, Whole, addressesWritten}
+use Rattle.pdi_spec.specs.Loading.{Memory, Feed, target, load, Whole, addressesWritten, Loaded}
 use Rattle.pdi_spec.specs.Ranges.{body, span, loadsTo}
 use Rattle.pdi_spec.specs.RuleList.{readingRules, plainRules, withoutBuffer, withRows, withHostRows}
 use Rattle.pdi_spec.specs.Rules.{imageTooLong}
@@ -61,7 +61,8 @@ pub record Acceptance : Type 0 where
   pub short : (image : List ℕ) (place : ℕ) (rows : List ℕ) → length rows < 260
       → readAnswer image place rows ≡ 64 * cond (imageTooLong (asked image place)) 1 2
   -- The host's call answers as read does of the buffer's numbers, and beside any buffer of read's where both serve or neither does.
-  pub host-answers : (image : List ℕ) (place : ℕ) (bytes : List ℕ) → hostAnswer image place bytes ≡ readAnswer image place (hostNumbers bytes)
+  pub host-answers : (image : List ℕ) (place : ℕ) (bytes : List ℕ)
+      → hostAnswer image place bytes ≡ readAnswer image place (hostNumbers bytes)
   pub host-beside-read : (image : List ℕ) (place : ℕ) (bytes rows : List ℕ) → ((260 ≤ length rows) ↔ (2080 ≤ length bytes))
       → hostAnswer image place bytes ≡ readAnswer image place rows
   -- Document 01's starred cases, 16 of them, answer, write and bill as it says.
@@ -143,6 +144,10 @@ pub record Loading : Type 0 where
       → (feeds : List Feed) → Whole (byRows (readRows image place rows)) feeds
       → List·Nodup (addressesWritten (byRows (readRows image place rows)) feeds)
       × ((address : ℕ) → List·Mem address (addressesWritten (byRows (readRows image place rows)) feeds) → address < 2 ^ 64)
+  -- All of this holds by the rows in the host's bytes as well.
+  pub host-loaded : (image : List ℕ) (place : ℕ) (bytes : List ℕ) → ((i : ℕ) → getD image i 0 < 256) → hostAnswer image place bytes ≡ 0
+      → (m : Memory) (feeds : List Feed) → Whole (byRows (hostNumbers (hostRows image place bytes))) feeds
+      → Loaded (byRows (hostNumbers (hostRows image place bytes))) m feeds
   -- The addresses written are those of the fed partitions' load ranges, and there is such a list, whatever bytes are chosen.
   pub written : (s : Stated) (feeds : List Feed) (address : ℕ)
       → List·Mem address (addressesWritten s feeds)

@@ -1,3 +1,4 @@
 -- The three demands, and the theorem that they hold. Assumes nothing.
 pub mod Demands
+pub mod Printing
 pub mod Theorem

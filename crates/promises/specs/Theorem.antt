@@ -5,13 +5,17 @@ use mathlib.Core.Path.{_≡_, refl, ap}
 use lib.ListN.{length}
 use Rattle.pdi_spec.specs.Answers.{asked, billed, cut, rowsBy, bodyBy, readAnswer}
 use Rattle.pdi_spec.specs.Bench.{starred}
+use Rattle.pdi_spec.specs.Envelope.{envelopeHead}
 use Rattle.pdi_spec.specs.Lists.{firstOf}
 use Rattle.pdi_spec.specs.Ranges.{Range, body, addressSpace}
 use Rattle.pdi_spec.specs.RuleList.{rule17, tableRules, headerRules, partitionRules, readingRules, clashRules, plainRules, withBuffer, withRows}
 use Rattle.pdi_spec.specs.Verdict.{once, each, eachAndTable, accepted, verdict, Kept, Keeps}
 use Rattle.pdi_spec.specs.Laws.Kept.{by-number}
 use Rattle.pdi_spec.specs.Claims
+use Rattle.listing.specs.Claims as ListingClaims
+use Rattle.listing.specs.Printed.{envelopeText, longestInput}
 use Rattle.promises.specs.Demands.{Demand1, Acceptance, Stating, Loading, Counting, Demands}
+use Rattle.promises.specs.Printing.{Decimals, Printing}
 
 refusals : Demand1
 refusals =
@@ -78,6 +82,7 @@ loading =
       once = λ image place rows e feeds w.
           let t = Claims.Memory.read-loads image place rows e (λ address. 0) feeds w in
           (t .once-each, t .inside);
+      host-loaded = Claims.Answers.host-loads;
       written = Claims.Memory.addresses-are;
       exists = Claims.Memory.whole-exists;
     }
@@ -93,3 +98,26 @@ counting =
 pub demands : Demands
 demands =
     record { refusals = refusals; acceptance = acceptance; stating = stating; loading = loading; counting = counting }
+
+-- ---- the program
+
+pub decimals : Decimals
+decimals =
+    record {
+      reads-back = ListingClaims.decimal-reads-back;
+      no-leading-zero = ListingClaims.no-leading-zero;
+      zero = ListingClaims.zero-is-one-digit;
+      digits = ListingClaims.digits-only;
+    }
+
+pub printing : Printing
+unfolding envelopeHead envelopeText longestInput
+printing =
+    record {
+      envelope = λ input h. ListingClaims.printed-bad input (Claims.Cases.envelope-bad input .1 h);
+      refused = λ input v s l rows h n. ListingClaims.printed-refused input _ (Claims.Cases.envelope-held input v s l) rows h n;
+      accepted = λ input v s l rows h e. ListingClaims.printed-accepted input _ (Claims.Cases.envelope-held input v s l) rows h e;
+      longest = ListingClaims.printed-longest;
+      some = ListingClaims.printed-some;
+      cut = ListingClaims.cut-prints-same;
+    }

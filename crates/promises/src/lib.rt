@@ -1,5 +1,6 @@
-// The promises, frozen: each question and each call for C again, under its whole promise, which is restated here from the definitions and
-// proved from the callee's contract alone. A contract that promises less, or asks something of its caller, no longer proves this crate.
+// The promises, frozen: each question, each call for C and each function of the program on lent bytes again, under its whole promise. That
+// is restated here from the definitions, and proved from the callee's contract alone. A contract that promises less, or asks something of
+// its caller, no longer proves this crate.
 // specs/Demands.antt gathers what is claimed of the definitions. Assumes nothing, and nothing depends on it.
 ghost use Prim.Native.Nat.{_+_, min};
 ghost use mathlib.Core.Path.{_≡_};
@@ -8,6 +9,7 @@ ghost use Rattle.pdi_spec.specs.Answers.{readAnswer, readRows, billAnswer, body
 ghost use Rattle.pdi_spec.specs.Envelope.{envelope, envelopeHead};
 ghost use Rattle.pdi_spec.specs.Host.{hostAnswer, hostRows};
 ghost use Rattle.envelope.specs.Opened.{openedAs};
+ghost use Rattle.listing.specs.Printed.{printAnswer, printBuffer};
 use envelope::Opened;
 
 // Read: the answer, and all of the row buffer, for any image, place and buffer.
@@ -54,6 +56,14 @@ pub fn host_body_length(image: &[u8], place: u64, p: u64) -> u64
     ensures { λ r. ⌜ r ≡ length (bodyAnswer (now (image .entry)) place p) ⌝ }
 {
     pdi_host::pdi_body_length(image, place, p)
+}
+
+// What the program prints for an input: how many bytes, and all of the buffer.
+pub fn print(input: &[u8], out: &mut [u8]) -> usize
+    ensures answers { λ r. ⌜ r ≡ printAnswer (now (input .entry)) (now (out .entry)) ⌝ }
+    ensures writes { λ _. ⌜ now (out .exit) ≡ printBuffer (now (input .entry)) (now (out .entry)) ⌝ }
+{
+    listing::print(input, out)
 }
 
 // The program's input: bad, or a table place.

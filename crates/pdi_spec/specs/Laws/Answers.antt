@@ -6,7 +6,7 @@ use mathlib.Core.List.{List, [], _∷_, _++_, flatMap, List·Mem, mem-cons-of-me
 use mathlib.Core.Logic.{_↔_, _⊎_, ⊎-elim}
 use mathlib.Core.Path.{_≡_, refl, sym, _∙_, ap}
 use mathlib.Core.Bool.{true, cond}
-use lib.ListN.{length, take, drop, length-take, length-drop}
+use lib.ListN.{length, take, drop, getD, length-take, length-drop}
 use lib.Dec.{ltb}
 use lib.Seq.{take-take}
 use borrow.Author.Tests.{lt-ltb, le-ltb}
@@ -147,6 +147,14 @@ module _ {own : List Rule} (s : Supported own) (image : List ℕ) (place : ℕ) 
     module _ (e : readBy own image place rows ≡ 0) where
       bill-verdict : verdict (withoutBuffer own) f ≡ accepted
       bill-verdict = read-accepts .0 e .1
+
+      -- the head's third number counts the partitions, so that a buffer that serves has room for their rows
+      pub count-written : getD (rowsBy own image place rows) 2 0 ≡ partitions (asked image place)
+      unfolding rowsBy byRows
+      count-written = rows-state _ f rows (read-verdict e) .same-count
+
+      pub rows-fit : headWidth + rowWidth * getD (rowsBy own image place rows) 2 0 ≤ bufferNumbers
+      rows-fit = omega (arith, count-written, few-partitions s f bill-verdict)
 
       pub fourth-is-bill : take 1 (drop 3 (rowsBy own image place rows)) ≡ billBy own image place ∷ []
       unfolding rowsBy billBy headAndRows head

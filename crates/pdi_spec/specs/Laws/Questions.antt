@@ -144,7 +144,8 @@ pub bill-at-most : {own : List Rule} (s : Supported own) (image : List ℕ) (pla
 unfolding billBy billUnder ifAccepted
 bill-at-most {own} s image place = go (verdict (withoutBuffer own) (asked image place)) refl
   where
-    go : (o : Outcome) → verdict (withoutBuffer own) (asked image place) ≡ o → billUnder (withoutBuffer own) (asked image place) ≤ length image
+    go : (o : Outcome) → verdict (withoutBuffer own) (asked image place) ≡ o
+        → billUnder (withoutBuffer own) (asked image place) ≤ length image
     go accepted e =
         accepted-bill (headers-state (asked image place)) (withoutBuffer own) e (listed s image place (s .spans))
         (listed s image place (s .stored)) .1

@@ -20,7 +20,8 @@ sum-short most g h a zero = omega arith
 sum-short most g h a (suc n) = omega (arith, h a, sum-short most g h (suc a) n, mul-suc most n)
 
 -- an entry that was found is one of those that were looked at
-entry-short : (b : Block) (test : ℕ → Bool) (a n : ℕ) → Option·elim (firstOf test (numbers a n)) 0 (entryAt b) ≤ 4 * b .offset + 52 * (a + n)
+entry-short : (b : Block) (test : ℕ → Bool) (a n : ℕ)
+    → Option·elim (firstOf test (numbers a n)) 0 (entryAt b) ≤ 4 * b .offset + 52 * (a + n)
 unfolding firstOf numbers entryAt Option·elim
 entry-short b test a zero = omega arith
 entry-short b test a (suc n) = go (test a) (entry-short b test (suc a) n)

@@ -1,0 +1,5 @@
+pub mod Claims
+pub mod Decimal
+pub mod Laws
+pub mod Pieces
+pub mod Printed
