@@ -1,13 +1,13 @@
 -- The host's read by read itself, of any question: both answer alike where both buffers serve, or neither does, and what read wrote is
 -- what the host's row buffer takes, 8 bytes to a number. Assumes nothing.
-use Prim.Native.Nat.{ℕ, _+_, _*_, _≤_, _<_}
+use Prim.Native.Nat.{ℕ, zero, suc, _+_, _*_, _≤_, _<_}
 use native.Mathlib.Omega.{arith}
 use mathlib.Core.List.{List, [], _∷_, _++_}
-use mathlib.Core.Path.{_≡_, sym, _∙_, ap, ap₂}
+use mathlib.Core.Path.{_≡_, refl, sym, _∙_, ap, ap₂}
 use lib.ListN.{length, take, drop, getD}
 use lib.Seq.{sets, take-at}
 use Rattle.pdi_spec.specs.{Limits.headWidth, Limits.rowWidth, Limits.bufferNumbers, Limits.bufferBytes, Limits.numberBytes, File.File, File.partitions, Verdict.Rule, Verdict.verdict, Verdict.accepted, RuleList.withRows, Answers.asked, Answers.headAndRows, Answers.readBy, Answers.rowsBy, Host.hostReadBy, Host.hostRowsBy, Supported.Supported}
-use Rattle.pdi_spec.specs.Laws.{Answers.host-accepts, Answers.host-same, Answers.host-refused, Answers.host-rows, Answers.read-length, Answers.read-verdict, Answers.count-written, Answers.rows-fit, Questions.host-beside, Rows.written-length, Rows.after-accepted}
+use Rattle.pdi_spec.specs.Laws.{Answers.host-accepts, Answers.host-same, Answers.host-refused, Answers.host-rows, Answers.read-length, Answers.read-refused, Answers.read-verdict, Answers.count-written, Answers.rows-fit, Questions.host-beside, Rows.written-length, Rows.after-accepted}
 use Rattle.pdi_host.proofs.Buffers.{bytesOf, whole}
 
 module _ {own : List Rule} (s : Supported own) (image : List ℕ) (place : ℕ) where
@@ -23,16 +23,25 @@ module _ {own : List Rule} (s : Supported own) (image : List ℕ) (place : ℕ) 
     count : getD numbers 2 0 ≡ partitions f
     count = ap (λ (l : List ℕ). getD l 2 0) en ∙ count-written s image place rows (sym er ∙ z)
 
-    -- as many numbers as a row buffer has, and not more of them written
-    pub numbers-few : (length numbers ≡ bufferNumbers) × (headWidth + rowWidth * getD numbers 2 0 ≤ bufferNumbers)
-    numbers-few = (ap length en ∙ read-length s image place rows ∙ size, rw en (rows-fit s image place rows (sym er ∙ z)))
-
     -- those are the head and the rows
     taken : take (headWidth + rowWidth * getD numbers 2 0) numbers ≡ headAndRows f
     unfolding rowsBy
     taken =
         ap₂ (λ (n : ℕ) (l : List ℕ). take (headWidth + rowWidth * n) l) count (en ∙ after-accepted _ f rows accepted-by)
         ∙ take-at (headAndRows f) (drop (headWidth + rowWidth * partitions f) rows) (headWidth + rowWidth * partitions f) (written-length f)
+
+  -- Read's own buffer, which held 0: as long as before, and no more numbers to store than it has, of a refusal too, which leaves it as
+  -- found.
+  pub numbers-few : (rows : List ℕ) → length rows ≡ bufferNumbers → getD rows 2 0 ≡ 0 → {numbers : List ℕ}
+      → numbers ≡ rowsBy own image place rows
+      → (length numbers ≡ bufferNumbers) × (headWidth + rowWidth * getD numbers 2 0 ≤ bufferNumbers)
+  numbers-few rows size blank {numbers} en = (ap length en ∙ read-length s image place rows ∙ size, go (readBy own image place rows) refl)
+    where
+      go : (r : ℕ) → readBy own image place rows ≡ r → headWidth + rowWidth * getD numbers 2 0 ≤ bufferNumbers
+      go zero e = rw en (rows-fit s image place rows e)
+      go (suc k) e =
+          let as-found = read-refused own image place rows (λ z. absurd (omega (arith, e, z))) in
+          omega (arith, ap (λ (l : List ℕ). getD l 2 0) (en ∙ as-found) ∙ blank)
 
   module _ (bytes : List ℕ) where
     abbrev Answers : ℕ → List ℕ → Type 0
@@ -60,7 +69,7 @@ module _ {own : List Rule} (s : Supported own) (image : List ℕ) (place : ℕ) 
         same-answer,
         ea
             ∙ ap (λ (l : List ℕ). sets bytes 0 (bytesOf l)) (taken rows size er z en)
-            ∙ whole (headAndRows f) bytes (omega (arith, written-length f, numbers-few rows size er z en .1, count rows size er z en))
+            ∙ whole (headAndRows f) bytes (omega (arith, written-length f, rows-fit s image place rows (sym er ∙ z), count-written s image place rows (sym er ∙ z)))
             ∙ ap (λ (n : ℕ). bytesOf (headAndRows f) ++ drop (numberBytes * n) bytes) (written-length f)
             ∙ sym (host-rows s image place bytes (sym same-answer ∙ z)),
       )

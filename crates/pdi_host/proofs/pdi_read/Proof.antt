@@ -27,18 +27,15 @@ slice-aggregate-put-numbers c = search needs
 
 mul-put-numbers : tie.Need-mul-put-numbers
 mul-put-numbers c =
-    let read = c .before .before .before .before .read .ensures in
-    omega (arith, numbers-few plain _ _ _ refl (read .0) (c .before .before .if2 .taken) (read .1) .1)
+    omega (arith, numbers-few plain _ _ _ refl refl (c .before .before .before .before .read .ensures .1) .1)
 
 add-put-numbers : tie.Need-add-put-numbers
 add-put-numbers c =
-    let read = c .before .before .before .before .read .ensures in
-    omega (arith, numbers-few plain _ _ _ refl (read .0) (c .before .before .if2 .taken) (read .1) .1)
+    omega (arith, numbers-few plain _ _ _ refl refl (c .before .before .before .before .read .ensures .1) .1)
 
 put-numbers-requires : tie.Need-put-numbers-requires
 put-numbers-requires c κs =
-    let read = c .before .before .before .before .read .ensures in
-    let few = numbers-few plain _ _ _ refl (read .0) (c .before .before .if2 .taken) (read .1) in
+    let few = numbers-few plain _ _ _ refl refl (c .before .before .before .before .read .ensures .1) in
     (omega arith, omega arith)
 
 same-length : tie.Need-same-length

@@ -5,12 +5,6 @@ use Rattle.ranges.proofs.Answers.{past-told, tests}
 use Rattle.ranges.proofs.past_address_space.Statement.{statement}
 use Rattle.ranges.proofs.past_address_space.Tie as tie
 
-sub-result : tie.Need-sub-result
-sub-result c = omega tests
-
-sub-result-2 : tie.Need-sub-result-2
-sub-result-2 c = omega tests
-
 returns : tie.Need-returns
 unfolding addressSpace endOf
 returns c = past-told _ _ _ (omega tests)
@@ -20,4 +14,4 @@ unfolding addressSpace endOf
 returns-2 c = past-told _ _ _ (omega tests)
 
 pub past-address-space-spec : {M : Type 1} → statement M
-past-address-space-spec = tie.close (tie.spec sub-result sub-result-2 returns returns-2)
+past-address-space-spec = tie.close (tie.spec (λ c. omega tests) (λ c. omega tests) returns returns-2)
