@@ -6,7 +6,7 @@ use mathlib.Core.Path.{_≡_, refl, sym, _∙_, ap, ap₂}
 use lib.ListN.{length, drop, getD}
 use lib.Seq.{sets, sets-eq}
 use borrow.Author.Tests.{lt-ltb, le-ltb}
-use Rattle.pdi_spec.specs.{Answers.asked, Envelope.Envelope, Envelope.bad, Envelope.holds, Envelope.bigEndianAt, Envelope.envelopeHead, Envelope.envelope, File.File, RuleList.plainRules, Verdict.Rule}
+use Rattle.pdi_spec.specs.{Answers.asked, Envelope.Envelope, Envelope.bad, Envelope.holds, Envelope.envelopeHead, Envelope.envelope, File.File, Verdict.Rule}
 use Rattle.pdi_spec.specs.Laws.Plain.{plain}
 use Rattle.envelope.specs.Opened.{openedAs}
 use Rattle.envelope.specs.declared.Opened.{Opened}

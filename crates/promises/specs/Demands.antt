@@ -4,28 +4,28 @@
 -- where its numbers are read back from eight bytes.
 use Prim.Native.Nat.{ℕ, _+_, _*_, _-_, _/_, _%_, _^_, _≤_, _<_}
 use mathlib.Core.Bool.{true, false, cond}
-use mathlib.Core.List.{List, [], _∷_, _++_, map, List·Mem, List·Nodup, Perm}
+use mathlib.Core.List.{List, [], _∷_, map, List·Mem, List·Nodup, Pairwise, Perm}
 use mathlib.Core.Logic.{_↔_, _⊎_}
-use mathlib.Core.Path.{_≡_, refl}
+use mathlib.Core.Path.{_≡_}
 use lib.ListN.{length, take, drop, getD}
-use Rattle.pdi_spec.specs.Answers.{hashEntry, billed, asked, cut, emptyPart, readAnswer, readRows, billAnswer, bodyPart, bodyAnswer}
+use Rattle.pdi_spec.specs.Answers.{hashEntry, asked, emptyPart, readAnswer, readRows, billAnswer, bodyPart, bodyAnswer}
 use Rattle.pdi_spec.specs.Bench.{Case, seen, starred}
 use Rattle.pdi_spec.specs.File.{File, table, partitions, partitionNumbers, header, hashBlock}
 use Rattle.pdi_spec.specs.HashBlock.{noBlock, entriesIn}
 use Rattle.pdi_spec.specs.Host.{hostNumbers, hostAnswer, hostRows}
 use Rattle.pdi_spec.specs.Lists.{numbers, sumOf}
 use Rattle.pdi_spec.specs.Loading.{Memory, Feed, target, load, Whole, addressesWritten, Loaded}
-use Rattle.pdi_spec.specs.Ranges.{body, span, loadsTo}
-use Rattle.pdi_spec.specs.RuleList.{readingRules, plainRules, withoutBuffer, withRows, withHostRows}
+use Rattle.pdi_spec.specs.Ranges.{loadsTo}
+use Rattle.pdi_spec.specs.RuleList.{readingRules, plainRules, withRows, withHostRows}
 use Rattle.pdi_spec.specs.Rules.{imageTooLong}
 use Rattle.pdi_spec.specs.Stated.{Stated, byRows, loadable, inSpans}
 use Rattle.pdi_spec.specs.Twice.{PositionTwice, AddressTwice, SmallestMeeting}
-use Rattle.pdi_spec.specs.Verdict.{Rule, accepted, verdict, Keeps, FirstRefusal}
+use Rattle.pdi_spec.specs.Verdict.{Rule, Keeps, FirstRefusal}
 use Rattle.pdi_spec.specs.Words.{wordAt}
 use Rattle.pdi_spec.specs.Claims
 
 -- Demand 1: "a refusal changes nothing".
-pub record Demand1 : Type 0 where
+pub record Refusals : Type 0 where
   -- A refused read has a number from 1 to 19 and a p of at most 32, and leaves every number of the row buffer as found.
   pub read-refused : (image : List ℕ) (place : ℕ) (rows : List ℕ) → (readAnswer image place rows ≡ 0 → ⊥)
       → (1 ≤ readAnswer image place rows / 64)
@@ -35,17 +35,20 @@ pub record Demand1 : Type 0 where
   -- Where its buffer serves, the bill is then 0 and every body empty.
   pub others-refused : (image : List ℕ) (place : ℕ) (rows : List ℕ) → (readAnswer image place rows ≡ 0 → ⊥) → 260 ≤ length rows
       → (billAnswer image place ≡ 0) × ((p : ℕ) → (bodyPart image place p ≡ emptyPart) × (bodyAnswer image place p ≡ []))
-  -- The host's read, refused, leaves every byte of its row buffer.
+  -- So it is of the host's read, which leaves every byte of its row buffer.
   pub host-refused : (image : List ℕ) (place : ℕ) (bytes : List ℕ) → (hostAnswer image place bytes ≡ 0 → ⊥)
       → (1 ≤ hostAnswer image place bytes / 64)
       × (hostAnswer image place bytes / 64 ≤ 19)
       × (hostAnswer image place bytes % 64 ≤ 32)
       × (hostRows image place bytes ≡ bytes)
+  pub host-others-refused : (image : List ℕ) (place : ℕ) (bytes : List ℕ) → (hostAnswer image place bytes ≡ 0 → ⊥) → 2080 ≤ length bytes
+      → (billAnswer image place ≡ 0) × ((p : ℕ) → (bodyPart image place p ≡ emptyPart) × (bodyAnswer image place p ≡ []))
 
 -- Demand 2: "an image is accepted exactly when it keeps the rules".
 pub record Acceptance : Type 0 where
-  -- Read's rules are numbered 1 to 19, in that order, and each is tried in ascending order.
+  -- Read's rules are numbered 1 to 19, in that order, and each is tried in ascending order of p.
   pub numbered : (n : ℕ) → map (λ (r : Rule). r .number) (withRows n plainRules) ≡ numbers 1 19
+  pub ascending : (n : ℕ) (f : File) (r : Rule) → List·Mem r (withRows n plainRules) → Pairwise (λ (a b : ℕ). a < b) (r .tried f)
   -- Accepted exactly when every rule is kept.
   pub accepts : (image : List ℕ) (place : ℕ) (rows : List ℕ)
       → (readAnswer image place rows ≡ 0) ↔ Keeps (withRows (length rows) plainRules) (asked image place)
@@ -60,7 +63,12 @@ pub record Acceptance : Type 0 where
   -- A buffer that is too short gives number 1 for an image that is too long, and else 2.
   pub short : (image : List ℕ) (place : ℕ) (rows : List ℕ) → length rows < 260
       → readAnswer image place rows ≡ 64 * cond (imageTooLong (asked image place)) 1 2
-  -- The host's call answers as read does of the buffer's numbers, and beside any buffer of read's where both serve or neither does.
+  pub host-short : (image : List ℕ) (place : ℕ) (bytes : List ℕ) → length bytes < 2080
+      → hostAnswer image place bytes ≡ 64 * cond (imageTooLong (asked image place)) 1 2
+  -- The host's call accepts exactly when every rule of its list is kept. It answers as read does of the buffer's numbers, and beside any
+  -- buffer of read's where both serve or neither does.
+  pub host-accepts : (image : List ℕ) (place : ℕ) (bytes : List ℕ)
+      → (hostAnswer image place bytes ≡ 0) ↔ Keeps (withHostRows (length bytes) plainRules) (asked image place)
   pub host-answers : (image : List ℕ) (place : ℕ) (bytes : List ℕ)
       → hostAnswer image place bytes ≡ readAnswer image place (hostNumbers bytes)
   pub host-beside-read : (image : List ℕ) (place : ℕ) (bytes rows : List ℕ) → ((260 ≤ length rows) ↔ (2080 ≤ length bytes))
@@ -69,7 +77,7 @@ pub record Acceptance : Type 0 where
   pub cases : (length starred ≡ 16) × (map seen starred ≡ map (λ (c : Case). c .says) starred)
 
 -- Demand 2: "and then rows, bill and bodies are those the headers state".
-pub record Stating : Type 0 where
+pub record Statements : Type 0 where
   -- The head: kind, images, N, billed bytes.
   pub head : (image : List ℕ) (place : ℕ) (rows : List ℕ) → readAnswer image place rows ≡ 0
       → take 4 (readRows image place rows)
@@ -165,8 +173,8 @@ pub record Counting : Type 0 where
   pub at-most : (image : List ℕ) (place : ℕ) → billAnswer image place ≤ length image
 
 pub record Demands : Type 0 where
-  pub refusals : Demand1
+  pub refusals : Refusals
   pub acceptance : Acceptance
-  pub stating : Stating
+  pub statements : Statements
   pub loading : Loading
   pub counting : Counting

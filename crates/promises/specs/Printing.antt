@@ -5,7 +5,7 @@ use mathlib.Core.List.{List, [], _∷_, _++_, List·Mem}
 use mathlib.Core.Logic.{_⊎_}
 use mathlib.Core.Path.{_≡_}
 use lib.ListN.{length, take, drop, getD}
-use Rattle.pdi_spec.specs.Answers.{asked, readAnswer, readRows}
+use Rattle.pdi_spec.specs.Answers.{readAnswer, readRows}
 use Rattle.pdi_spec.specs.Envelope.{bigEndianAt}
 use Rattle.pdi_spec.specs.Words.{byteAt}
 use Rattle.listing.specs.Decimal.{decimal, value}

@@ -14,26 +14,30 @@ use Rattle.pdi_spec.specs.Laws.Kept.{by-number}
 use Rattle.pdi_spec.specs.Claims
 use Rattle.listing.specs.Claims as ListingClaims
 use Rattle.listing.specs.Printed.{envelopeText, longestInput}
-use Rattle.promises.specs.Demands.{Demand1, Acceptance, Stating, Loading, Counting, Demands}
+use Rattle.promises.specs.Demands.{Refusals, Acceptance, Statements, Loading, Counting, Demands}
 use Rattle.promises.specs.Printing.{Decimals, Printing}
 
-refusals : Demand1
+refusals : Refusals
 refusals =
     record {
       read-refused = λ image place rows n. let t = Claims.Answers.read-refusal image place rows n in (t .0, t .1, t .2, t .3);
       others-refused = λ image place rows n. Claims.Answers.read-refusal image place rows n .4;
       host-refused = λ image place bytes n. let t = Claims.Answers.host-refusal image place bytes n in (t .0, t .1, t .2, t .3);
+      host-others-refused = λ image place bytes n. Claims.Answers.host-refusal image place bytes n .4;
     }
 
 acceptance : Acceptance
-unfolding starred
+unfolding starred withRows
 acceptance =
     record {
       numbered = Claims.Refusals.numbers-of-read;
+      ascending = λ n. Claims.Acceptance.tried-ascending _ n;
       accepts = Claims.Answers.read-accepted-exactly;
       refuses = Claims.Answers.read-refused-exactly;
       claimed-twice = Claims.Answers.read-twice;
       short = Claims.Answers.read-short;
+      host-short = Claims.Answers.host-short;
+      host-accepts = Claims.Answers.host-accepted-exactly;
       host-answers = Claims.Answers.host-is-read;
       host-beside-read = Claims.Answers.host-beside-read;
       cases = (refl, Claims.Cases.starred-cases);
@@ -52,9 +56,9 @@ blocks-kept image place rows e =
     Claims.Answers.read-accepted-exactly image place rows .0 e rule17
     (mem-cons-of-mem _ (mem-cons-of-mem _ (by-number 17 plainRules refl)))
 
-stating : Stating
+statements : Statements
 unfolding rowsBy bodyBy billed body cut
-stating =
+statements =
     record {
       head = λ image place rows e. Claims.Rows.head-stated _ (asked image place) rows (verdict-is image place rows e);
       row = λ image place rows e. Claims.Rows.row-stated _ (asked image place) rows (verdict-is image place rows e);
@@ -97,7 +101,7 @@ counting =
 
 pub demands : Demands
 demands =
-    record { refusals = refusals; acceptance = acceptance; stating = stating; loading = loading; counting = counting }
+    record { refusals = refusals; acceptance = acceptance; statements = statements; loading = loading; counting = counting }
 
 -- ---- the program
 

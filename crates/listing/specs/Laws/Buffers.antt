@@ -1,12 +1,12 @@
 -- What is printed by what read answers and leaves in a row buffer that serves, of any question that is as Supported says. Assumes nothing.
-use Prim.Native.Nat.{ℕ, zero, suc, _+_, _*_, _/_, _%_, _≤_, _<_}
+use Prim.Native.Nat.{ℕ, zero, suc, _+_, _*_, _≤_}
 use native.Mathlib.Omega.{arith}
 use mathlib.Core.List.{List, [], _∷_, _++_, flatMap, append-assoc, append-nil}
 use mathlib.Core.Path.{_≡_, refl, sym, _∙_, ap, ap₂}
-use lib.ListN.{length, take, drop, getD}
+use lib.ListN.{length, drop}
 use lib.Seq.{take-at, drop-at}
-use Rattle.pdi_spec.specs.{Limits.answerUnit, Limits.headWidth, Limits.rowWidth, Limits.bufferNumbers, Lists.numbers, File.File, File.partitions, File.partitionNumbers, Verdict.Rule, Verdict.Outcome, Verdict.accepted, Verdict.refused, Verdict.verdict, RuleList.withoutBuffer, RuleList.withRows, Answers.answer, Answers.asked, Answers.ifAccepted, Answers.head, Answers.rowNumbers, Answers.rowOf, Answers.headAndRows, Answers.readBy, Answers.rowsBy, Supported.Supported}
-use Rattle.pdi_spec.specs.Laws.{Answers.read-accepts, Answers.read-verdict, Refusals.answer-tells, Refusals.refusal-p, Refusals.with-room, Rows.after-accepted}
+use Rattle.pdi_spec.specs.{Limits.headWidth, Limits.rowWidth, Limits.bufferNumbers, Lists.numbers, File.File, File.partitions, File.partitionNumbers, Verdict.Rule, Verdict.Outcome, Verdict.accepted, Verdict.refused, Verdict.verdict, RuleList.withoutBuffer, RuleList.withRows, Answers.answer, Answers.asked, Answers.ifAccepted, Answers.head, Answers.rowNumbers, Answers.rowOf, Answers.headAndRows, Answers.readBy, Answers.rowsBy, Supported.Supported}
+use Rattle.pdi_spec.specs.Laws.{Answers.read-verdict, Refusals.answer-tells, Refusals.refusal-p, Refusals.with-room, Rows.after-accepted}
 use Rattle.listing.specs.Printed.{line, numberAndP, lines, printedOf, answerLine, rowLines, bufferLines}
 
 -- ---- lines of rows

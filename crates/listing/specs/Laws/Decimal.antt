@@ -3,7 +3,7 @@
 use Prim.Native.Nat.{ℕ, zero, suc, _+_, _-_, _*_, _/_, _%_, _^_, _≤_, _<_}
 use native.Mathlib.Bridge.{le-prop}
 use native.Mathlib.Omega.{arith}
-use mathlib.Core.Bool.{Bool, true, false, cond}
+use mathlib.Core.Bool.{Bool, true, false}
 use mathlib.Core.HLevel.{×-prop}
 use mathlib.Core.List.{List, [], _∷_, _++_, List·Mem}
 use mathlib.Core.Logic.{_⊎_, inl, inr, ⊎-elim}
@@ -12,7 +12,7 @@ use lib.Dec.{ltb}
 use lib.ListN.{length, length-append, getD, List·getD-append}
 use borrow.Author.Tests.{lt-ltb, le-ltb, ltb-true, ltb-false}
 use Rattle.pdi_spec.specs.Laws.Lists.{Every, every-mem}
-use Rattle.listing.specs.Decimal.{zeroDigit, digit, digitsUpTo, decimal, valueFrom, value}
+use Rattle.listing.specs.Decimal.{digit, digitsUpTo, decimal, valueFrom, value}
 
 -- a number has one digit, or more
 pub one-or-more : (n : ℕ) → (n < 10) ⊎ (10 ≤ n)

@@ -7,7 +7,7 @@ use mathlib.Core.List.{List, [], _++_}
 use mathlib.Core.Logic.{_↔_}
 use mathlib.Core.Path.{_≡_, sym, _∙_}
 use lib.ListN.{length, drop, getD}
-use Rattle.pdi_spec.specs.{Limits.mostPartitions, Limits.headWidth, Limits.rowWidth, Limits.bufferNumbers, Limits.bufferBytes, Limits.answerUnit, Limits.lastRule, File.partitions, File.header, Ranges.body, Rules.imageTooLong, RuleList.readingRules, RuleList.plainRules, RuleList.withoutBuffer, RuleList.withRows, RuleList.withHostRows, Verdict.accepted, Verdict.verdict, Verdict.Keeps, Verdict.FirstRefusal, Answers.billed, Answers.headAndRows, Answers.cut, Answers.asked, Answers.emptyPart, Answers.readBy, Answers.rowsBy, Answers.billBy, Answers.partBy, Answers.bodyBy, Answers.readAnswer, Answers.readRows, Answers.billAnswer, Answers.bodyPart, Answers.bodyAnswer, Host.hostNumbers, Host.hostReadBy, Host.hostAnswer, Host.hostRows, Stated.Stated, Stated.byRows, Stated.inSpans, Loading.Memory, Loading.Feed, Loading.Whole, Loading.Loaded, Twice.PositionTwice, Twice.AddressTwice, Twice.SmallestMeeting}
+use Rattle.pdi_spec.specs.{Limits.mostPartitions, Limits.headWidth, Limits.rowWidth, Limits.bufferNumbers, Limits.bufferBytes, Limits.answerUnit, Limits.lastRule, File.partitions, Ranges.body, Rules.imageTooLong, RuleList.readingRules, RuleList.plainRules, RuleList.withRows, RuleList.withHostRows, Verdict.Keeps, Verdict.FirstRefusal, Answers.billed, Answers.headAndRows, Answers.cut, Answers.asked, Answers.emptyPart, Answers.readBy, Answers.rowsBy, Answers.billBy, Answers.partBy, Answers.bodyBy, Answers.readAnswer, Answers.readRows, Answers.billAnswer, Answers.bodyPart, Answers.bodyAnswer, Host.hostNumbers, Host.hostReadBy, Host.hostAnswer, Host.hostRows, Stated.byRows, Stated.inSpans, Loading.Memory, Loading.Feed, Loading.Whole, Loading.Loaded, Twice.PositionTwice, Twice.AddressTwice, Twice.SmallestMeeting}
 use Rattle.pdi_spec.specs.Laws.{Plain.plain}
 use Rattle.pdi_spec.specs.Laws
 

@@ -1,6 +1,6 @@
 -- The host's row buffer as numbers: a call leaves there just what read leaves in a buffer of those numbers. That a number of eight bytes
 -- reads back is asked of an image whose bytes are below 256. Assumes nothing.
-use Prim.Native.Nat.{ℕ, zero, suc, _+_, _*_, _-_, _/_, _%_, _^_, _≤_, _<_}
+use Prim.Native.Nat.{ℕ, zero, suc, _+_, _*_, _-_, _/_, _^_, _<_}
 use native.Mathlib.Nat.{pow-suc}
 use native.Mathlib.Omega.{arith}
 use mathlib.Core.List.{List, [], _∷_, _++_, flatMap, append-assoc}
@@ -11,8 +11,8 @@ use lib.ListN.{length, take, drop, getD, length-append, length-drop}
 use lib.Dec.{eqb}
 use lib.Seq.{take-at, drop-at, drop-drop}
 use borrow.Author.Tests.{eqb-true, eqb-false}
-use Rattle.pdi_spec.specs.{Limits.mostPartitions, Limits.headWidth, Limits.rowWidth, Limits.bufferNumbers, Limits.numberBytes, Limits.bufferBytes, File.File, File.partitions, RuleList.withRows, Verdict.Rule, Verdict.Outcome, Verdict.accepted, Verdict.refused, Verdict.verdict, Answers.headAndRows, Answers.asked, Answers.readBy, Answers.rowsBy, Host.leBytes, Host.leNumber, Host.numbersFrom, Host.hostNumbers, Host.hostReadBy, Host.hostRowsBy, Supported.Supported}
-use Rattle.pdi_spec.specs.Laws.{Lists.Every, Tests.either, Refusals.few-partitions, Rows.written-length, Rows.after-accepted, Answers.le-length, Answers.bytes-length, Answers.read-accepts, Answers.host-accepts, Answers.read-refused, Answers.host-refused, Answers.read-verdict, Answers.host-rows, Questions.host-beside, Widths.all-narrow}
+use Rattle.pdi_spec.specs.{Limits.headWidth, Limits.rowWidth, Limits.numberBytes, File.File, File.partitions, Verdict.Rule, Answers.headAndRows, Answers.asked, Answers.readBy, Answers.rowsBy, Host.leBytes, Host.leNumber, Host.numbersFrom, Host.hostNumbers, Host.hostReadBy, Host.hostRowsBy, Supported.Supported}
+use Rattle.pdi_spec.specs.Laws.{Lists.Every, Tests.either, Refusals.few-partitions, Rows.written-length, Rows.after-accepted, Answers.le-length, Answers.bytes-length, Answers.host-accepts, Answers.read-refused, Answers.host-refused, Answers.read-verdict, Answers.host-rows, Questions.host-beside, Widths.all-narrow}
 
 -- ---- numbers and their bytes
 

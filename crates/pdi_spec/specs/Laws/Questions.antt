@@ -9,7 +9,7 @@ use mathlib.Core.Path.{_≡_, refl, sym, _∙_, ap}
 use lib.Dec.{ltb}
 use lib.ListN.{length}
 use borrow.Author.Tests.{ltb-true, ltb-false, lt-ltb}
-use Rattle.pdi_spec.specs.{Limits.longestImage, Limits.mostPartitions, Limits.bufferNumbers, Limits.bufferBytes, Limits.answerUnit, Limits.lastRule, Lists.firstOf, File.File, Rules.imageTooLong, Rules.bufferTooShort, RuleList.rule1, RuleList.rule2, RuleList.rule18, RuleList.rule19, RuleList.readingRules, RuleList.plainRules, RuleList.withoutBuffer, RuleList.withBuffer, RuleList.withRows, RuleList.withHostRows, Verdict.Rule, Verdict.once, Verdict.Outcome, Verdict.accepted, Verdict.refused, Verdict.verdict, Verdict.Kept, Verdict.Keeps, Verdict.FirstRefusal, Answers.answer, Answers.ifAccepted, Answers.asked, Answers.emptyPart, Answers.billUnder, Answers.readBy, Answers.billBy, Answers.partBy, Answers.bodyBy, Host.hostReadBy, Twice.PositionTwice, Twice.AddressTwice, Twice.SmallestMeeting, Supported.Supported}
+use Rattle.pdi_spec.specs.{Limits.mostPartitions, Limits.bufferNumbers, Limits.bufferBytes, Limits.answerUnit, Limits.lastRule, Lists.firstOf, File.File, Rules.imageTooLong, Rules.bufferTooShort, RuleList.rule1, RuleList.rule2, RuleList.rule18, RuleList.rule19, RuleList.readingRules, RuleList.plainRules, RuleList.withoutBuffer, RuleList.withBuffer, RuleList.withRows, RuleList.withHostRows, Verdict.Rule, Verdict.once, Verdict.Outcome, Verdict.accepted, Verdict.refused, Verdict.verdict, Verdict.Kept, Verdict.Keeps, Verdict.FirstRefusal, Answers.answer, Answers.ifAccepted, Answers.asked, Answers.emptyPart, Answers.billUnder, Answers.readBy, Answers.billBy, Answers.partBy, Answers.bodyBy, Host.hostReadBy, Twice.PositionTwice, Twice.AddressTwice, Twice.SmallestMeeting, Supported.Supported}
 use Rattle.pdi_spec.specs.Laws.{Tests.either, Verdict.verdict-broken, Verdict.verdict-kept, Verdict.accepted-keeps, Verdict.keeps-accepted, Verdict.refused-first, Verdict.first-refused, Refusals.answer-refused, Refusals.with-room, Refusals.zero-accepted, Refusals.refusal-p, Stated.headers-state, Stated.accepted-bill, Answers.listed, Answers.bill-refused, Answers.part-refused, Answers.body-refused, Answers.host-same, Plain.plain, Plain.buffer-split, Plain.buffer-small, ClashVerdict.refused-18, ClashVerdict.refused-19, ClashVerdict.refused-19-some}
 
 -- ---- a list with a row buffer that has `have`, where `least` serves

@@ -4,9 +4,8 @@ use Prim.Native.Nat.{ℕ, zero, suc, _+_, _*_, _/_, _^_, _≤_, _<_}
 use native.Mathlib.Nat.{mul-suc}
 use native.Mathlib.Omega.{arith}
 use mathlib.Core.Bool.{Bool, true, false, cond}
-use mathlib.Core.List.{List, [], _∷_, _++_, map, flatMap}
+use mathlib.Core.List.{List, map, flatMap}
 use mathlib.Core.Option.{Option·elim, some}
-use mathlib.Core.Path.{_≡_, refl}
 use lib.ListN.{getD}
 use Rattle.pdi_spec.specs.{Limits.mostPartitions, Lists.numbers, Lists.sumOf, Lists.firstOf, Words.byteAt, Words.wordAt, Words.spells, Headers.Block, Headers.blockFrom, Headers.FPDI, Headers.PPDI, Headers.kindFrom, Headers.tableFrom, Headers.headerFrom, File.File, File.table, File.partitions, File.partitionNumbers, File.headerAt, File.header, File.hashBlock, HashBlock.entriesIn, HashBlock.entryAt, HashBlock.hasIndex, HashBlock.entryNumbers, HashBlock.hashEntryIn, Ranges.span, Ranges.loadRange, Answers.rowNumbers, Answers.hashEntry, Answers.rowOf, Answers.billed, Answers.head, Answers.headAndRows}
 use Rattle.pdi_spec.specs.Laws.{Lists.Every, Lists.every-append}

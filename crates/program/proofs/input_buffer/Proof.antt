@@ -1,7 +1,7 @@
 -- `program::input_buffer` meets its contract. Assumes nothing.
 use Prim.Native.Nat.{ℕ}
 use native.Mathlib.Omega.{arith}
-use lib.ListN.{length, length-replicate}
+use lib.ListN.{length-replicate}
 use Rattle.pdi_spec.specs.Envelope.{envelopeHead}
 use Rattle.listing.specs.Printed.{longestInput}
 use Rattle.program.proofs.input_buffer.Statement.{statement}

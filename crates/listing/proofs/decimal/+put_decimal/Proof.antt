@@ -4,7 +4,7 @@ use Prim.Native.Nat.{ℕ, _<_}
 use native.Mathlib.Omega.{arith}
 use borrow.Fn.Kinds.{In}
 use borrow.Fn.PlainCycle.{Measures, is, falls, and}
-use lib.ListN.{length, length-set}
+use lib.ListN.{length-set}
 use Rattle.listing.specs.Laws.Decimal.{decimal-some, length-more}
 use Rattle.listing.proofs.Stores.{one-digit, last-digit}
 use Rattle.listing.proofs.decimal.put_decimal.Reads as own

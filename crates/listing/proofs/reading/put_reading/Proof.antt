@@ -1,8 +1,7 @@
 -- `listing::reading::put_reading` meets its contract, by the laws of Readings.antt. Assumes nothing.
 use borrow.Author.Needs.{needs}
 use native.Mathlib.Omega.{arith}
-use mathlib.Core.List.{List}
-use lib.ListN.{length, replicate}
+use lib.ListN.{replicate}
 use Rattle.pdi_spec.specs.Laws.Plain.{plain}
 use Rattle.pdi_spec.specs.Limits.{bufferNumbers}
 use Rattle.listing.proofs.Readings.{refused-stored, accepted-stored, answer-fits, buffer-fits}
