@@ -69,7 +69,8 @@ module _ {own : List Rule} (s : Supported own) (image : List ℕ) (place : ℕ) 
         same-answer,
         ea
             ∙ ap (λ (l : List ℕ). sets bytes 0 (bytesOf l)) (taken rows size er z en)
-            ∙ whole (headAndRows f) bytes (omega (arith, written-length f, rows-fit s image place rows (sym er ∙ z), count-written s image place rows (sym er ∙ z)))
+            ∙ whole (headAndRows f) bytes
+            (omega (arith, written-length f, rows-fit s image place rows (sym er ∙ z), count-written s image place rows (sym er ∙ z)))
             ∙ ap (λ (n : ℕ). bytesOf (headAndRows f) ++ drop (numberBytes * n) bytes) (written-length f)
             ∙ sym (host-rows s image place bytes (sym same-answer ∙ z)),
       )

@@ -73,6 +73,14 @@ pub record Acceptance : Type 0 where
       → hostAnswer image place bytes ≡ readAnswer image place (hostNumbers bytes)
   pub host-beside-read : (image : List ℕ) (place : ℕ) (bytes rows : List ℕ) → ((260 ≤ length rows) ↔ (2080 ≤ length bytes))
       → hostAnswer image place bytes ≡ readAnswer image place rows
+  -- It refuses by the lowest broken number too, and what is claimed twice by 18 and 19.
+  pub host-refuses : (image : List ℕ) (place : ℕ) (bytes : List ℕ) (k p : ℕ) → 1 ≤ k → p < 64
+      → (hostAnswer image place bytes ≡ 64 * k + p) ↔ FirstRefusal (withHostRows (length bytes) plainRules) (asked image place) k p
+  pub host-claimed-twice : (image : List ℕ) (place : ℕ) (bytes : List ℕ)
+      → Keeps (withHostRows (length bytes) readingRules) (asked image place)
+      → ((hostAnswer image place bytes ≡ 64 * 18) ↔ PositionTwice (asked image place))
+      × ((hostAnswer image place bytes / 64 ≡ 19) ↔ ((PositionTwice (asked image place) → ⊥) × AddressTwice (asked image place)))
+      × (hostAnswer image place bytes / 64 ≡ 19 → SmallestMeeting (asked image place) (hostAnswer image place bytes % 64))
   -- Document 01's starred cases, 16 of them, answer, write and bill as it says.
   pub cases : (length starred ≡ 16) × (map seen starred ≡ map (λ (c : Case). c .says) starred)
 

@@ -39,7 +39,9 @@ acceptance =
       host-short = Claims.Answers.host-short;
       host-accepts = Claims.Answers.host-accepted-exactly;
       host-answers = Claims.Answers.host-is-read;
-      host-beside-read = Claims.Answers.host-beside-read;
+      host-beside-read = λ image place bytes rows. Claims.Answers.host-beside-read image place bytes rows .0;
+      host-refuses = Claims.Answers.host-refused-exactly;
+      host-claimed-twice = Claims.Answers.host-twice;
       cases = (refl, Claims.Cases.starred-cases);
     }
 

@@ -96,15 +96,18 @@ module _ (image : List ℕ) (place : ℕ) where
         → hostNumbers (hostRows image place bytes) ≡ readRows image place (hostNumbers bytes)
     host-leaves-reads = Laws.HostNumbers.host-numbers plain image place bytes
 
-    -- Beside read with any buffer: where both buffers serve or neither does, they answer alike.
-    pub host-beside-read : (rows : List ℕ) → ((bufferNumbers ≤ length rows) ↔ (bufferBytes ≤ length bytes))
-        → hostAnswer image place bytes ≡ readAnswer image place rows
-    host-beside-read rows = Laws.Questions.host-beside plainRules image place rows bytes
-
     -- A buffer of fewer bytes than serve: number 1 for an image that is too long, and else 2.
     pub host-short : length bytes < bufferBytes → hostAnswer image place bytes ≡ answerUnit * cond (imageTooLong (asked image place)) 1 2
     unfolding hostReadBy withHostRows
     host-short = Laws.Questions.short-answer bufferBytes (length bytes) plainRules (asked image place)
+
+    -- Beside read, for every pair of buffers: where both serve or neither does, they answer alike; and whichever is too short, its answer
+    -- is of number 1 or 2.
+    pub host-beside-read : (rows : List ℕ)
+        → (((bufferNumbers ≤ length rows) ↔ (bufferBytes ≤ length bytes)) → hostAnswer image place bytes ≡ readAnswer image place rows)
+        × (length bytes < bufferBytes → hostAnswer image place bytes ≡ answerUnit * cond (imageTooLong (asked image place)) 1 2)
+        × (length rows < bufferNumbers → readAnswer image place rows ≡ answerUnit * cond (imageTooLong (asked image place)) 1 2)
+    host-beside-read rows = (Laws.Questions.host-beside plainRules image place rows bytes, host-short, read-short rows)
 
     -- A refused call has a number from 1 to 19 and a p of at most 32, leaves the buffer as found, and, where the buffer serves, the bill is
     -- 0 and every body is empty.
@@ -125,6 +128,26 @@ module _ (image : List ℕ) (place : ℕ) where
     pub host-accepted-exactly : (hostAnswer image place bytes ≡ 0) ↔ Keeps (withHostRows (length bytes) plainRules) (asked image place)
     unfolding hostReadBy withHostRows
     host-accepted-exactly = Laws.Questions.zero-exactly plain bufferBytes (length bytes) (asked image place)
+
+    -- It answers 64 × k + p exactly where rule k is the first broken one, and p the first that breaks it.
+    pub host-refused-exactly : (k p : ℕ) → 1 ≤ k → p < answerUnit
+        → (hostAnswer image place bytes ≡ answerUnit * k + p)
+        ↔ FirstRefusal (withHostRows (length bytes) plainRules) (asked image place) k p
+    unfolding hostReadBy withHostRows
+    host-refused-exactly = Laws.Questions.refusal-exactly plain bufferBytes (length bytes) (asked image place)
+
+    -- With rules 1 to 17 kept, 64 × 18 exactly where a position is claimed twice, and of number 19 exactly where no position is, but an
+    -- address is; p is then the smallest partition whose load range meets an earlier one's.
+    pub host-twice : Keeps (withHostRows (length bytes) readingRules) (asked image place)
+        → ((hostAnswer image place bytes ≡ answerUnit * 18) ↔ PositionTwice (asked image place))
+        × ((hostAnswer image place bytes / answerUnit ≡ 19) ↔ ((PositionTwice (asked image place) → ⊥) × AddressTwice (asked image place)))
+        × (hostAnswer image place bytes / answerUnit ≡ 19 → SmallestMeeting (asked image place) (hostAnswer image place bytes % answerUnit))
+    unfolding hostReadBy withHostRows
+    host-twice k = (
+      Laws.Questions.answers-18 bufferBytes (length bytes) (asked image place) k,
+      Laws.Questions.answers-19 bufferBytes (length bytes) (asked image place) k,
+      Laws.Questions.smallest-19 bufferBytes (length bytes) (asked image place) k,
+    )
 
     -- Where it accepts, every whole list loads by the rows in its bytes, and the bill is the count of positions in a span of those rows.
     pub host-loads : ((i : ℕ) → getD image i 0 < 256) → hostAnswer image place bytes ≡ 0
