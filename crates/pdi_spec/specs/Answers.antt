@@ -1,10 +1,11 @@
 -- Document 01, "What the reader does" and "What an acceptance writes": the complete answers of read, bill and body.
 -- Assumes nothing.
-use Prim.Native.Nat.{ℕ, _+_, _*_}
+use Prim.Native.Nat.{ℕ, _+_, _*_, _/_, _%_, _≤_}
 use mathlib.Core.Bool.{cond}
 use mathlib.Core.List.{List, [], _∷_, _++_, map, flatMap}
+use mathlib.Core.Path.{_≡_}
 use lib.ListN.{length, take, drop}
-use Rattle.pdi_spec.specs.Limits.{answerUnit}
+use Rattle.pdi_spec.specs.Limits.{mostPartitions, answerUnit, lastRule}
 use Rattle.pdi_spec.specs.Lists.{sumOf}
 use Rattle.pdi_spec.specs.File.{File, table, partitions, partitionNumbers, header, hashBlock}
 use Rattle.pdi_spec.specs.HashBlock.{hashEntryIn}
@@ -135,3 +136,15 @@ bodyPart = partBy plainRules
 
 abbrev pub bodyAnswer : List ℕ → ℕ → ℕ → List ℕ
 bodyAnswer = bodyBy plainRules
+
+-- ---- what is claimed of a refused call, read's or the host's: `given` is its answer, `found` and `left` are its row buffer before and
+-- after, and `least` is the least that serves
+
+pub record RefusedCall (image : List ℕ) (place given : ℕ) (found left : List ℕ) (least : ℕ) : Type 0 where
+  pub from-1 : 1 ≤ given / answerUnit
+  pub to-last : given / answerUnit ≤ lastRule
+  pub small-p : given % answerUnit ≤ mostPartitions
+  pub as-found : left ≡ found
+  pub bills-nothing : least ≤ length found → billAnswer image place ≡ 0
+  pub no-part : least ≤ length found → (p : ℕ) → bodyPart image place p ≡ emptyPart
+  pub no-body : least ≤ length found → (p : ℕ) → bodyAnswer image place p ≡ []

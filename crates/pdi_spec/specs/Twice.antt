@@ -1,9 +1,11 @@
 -- Document 01, "Positions, memory and claims": positions and addresses that are claimed twice. Assumes nothing.
-use Prim.Native.Nat.{ℕ, _≤_, _<_}
+use Prim.Native.Nat.{ℕ, _*_, _/_, _%_, _≤_, _<_}
 use mathlib.Core.Bool.{So}
 use mathlib.Core.List.{List, [], _∷_, _++_, List·Mem, Sublist}
-use mathlib.Core.Logic.{_≢_}
+use mathlib.Core.Logic.{_≢_, _↔_}
+use mathlib.Core.Path.{_≡_}
 use lib.ListN.{length}
+use Rattle.pdi_spec.specs.Limits.{answerUnit}
 use Rattle.pdi_spec.specs.File.{File, partitions}
 use Rattle.pdi_spec.specs.Ranges.{Range, within, headerRanges, spans, bodies, hashBlocks, loads, loadRange, loadsTo, addressSpace}
 
@@ -50,3 +52,10 @@ pub record SmallestMeeting (f : File) (p : ℕ) : Type 0 where
   pub in-chain : p ≤ partitions f
   pub meets : MeetsEarlier f p
   pub smallest : (e : ℕ) → e < p → MeetsEarlier f e → ⊥
+
+-- what is claimed of the answer `given`, where rules 1 to 17 are kept: 18 exactly where a position is claimed twice, 19 exactly where no
+-- position is, but an address is, and p is then the smallest partition whose load range meets an earlier one's
+pub record ClaimedTwice (f : File) (given : ℕ) : Type 0 where
+  pub stored : (given ≡ answerUnit * 18) ↔ PositionTwice f
+  pub loaded : (given / answerUnit ≡ 19) ↔ ((PositionTwice f → ⊥) × AddressTwice f)
+  pub smallest-p : given / answerUnit ≡ 19 → SmallestMeeting f (given % answerUnit)

@@ -20,10 +20,18 @@ use Rattle.promises.specs.Printing.{Decimals, Printing}
 refusals : Refusals
 refusals =
     record {
-      read-refused = λ image place rows n. let t = Claims.Answers.read-refusal image place rows n in (t .0, t .1, t .2, t .3);
-      others-refused = λ image place rows n. Claims.Answers.read-refusal image place rows n .4;
-      host-refused = λ image place bytes n. let t = Claims.Answers.host-refusal image place bytes n in (t .0, t .1, t .2, t .3);
-      host-others-refused = λ image place bytes n. Claims.Answers.host-refusal image place bytes n .4;
+      read-refused = λ image place rows n.
+          let t = Claims.Answers.read-refusal image place rows n in
+          (t .from-1, t .to-last, t .small-p, t .as-found);
+      others-refused = λ image place rows n h.
+          let t = Claims.Answers.read-refusal image place rows n in
+          (t .bills-nothing h, λ p. (t .no-part h p, t .no-body h p));
+      host-refused = λ image place bytes n.
+          let t = Claims.Answers.host-refusal image place bytes n in
+          (t .from-1, t .to-last, t .small-p, t .as-found);
+      host-others-refused = λ image place bytes n h.
+          let t = Claims.Answers.host-refusal image place bytes n in
+          (t .bills-nothing h, λ p. (t .no-part h p, t .no-body h p));
     }
 
 acceptance : Acceptance
@@ -34,14 +42,18 @@ acceptance =
       ascending = λ n. Claims.Acceptance.tried-ascending _ n;
       accepts = Claims.Answers.read-accepted-exactly;
       refuses = Claims.Answers.read-refused-exactly;
-      claimed-twice = Claims.Answers.read-twice;
+      claimed-twice = λ image place rows k.
+          let t = Claims.Answers.read-twice image place rows k in
+          (t .stored, t .loaded, t .smallest-p);
       short = Claims.Answers.read-short;
       host-short = Claims.Answers.host-short;
       host-accepts = Claims.Answers.host-accepted-exactly;
       host-answers = Claims.Answers.host-is-read;
       host-beside-read = λ image place bytes rows. Claims.Answers.host-beside-read image place bytes rows .0;
       host-refuses = Claims.Answers.host-refused-exactly;
-      host-claimed-twice = Claims.Answers.host-twice;
+      host-claimed-twice = λ image place bytes k.
+          let t = Claims.Answers.host-twice image place bytes k in
+          (t .stored, t .loaded, t .smallest-p);
       cases = (refl, Claims.Cases.starred-cases);
     }
 

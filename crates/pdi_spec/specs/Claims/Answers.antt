@@ -1,13 +1,13 @@
 -- Claims of the answers themselves, each a whole sentence of a demand: of read, bill and body, and of the host's calls, for every image,
 -- place and row buffer. The general claims that they rest on are in the other files. Assumes nothing, but that an image's bytes are below
 -- 256 where its numbers are read back from eight bytes.
-use Prim.Native.Nat.{ℕ, _+_, _*_, _/_, _%_, _≤_, _<_}
+use Prim.Native.Nat.{ℕ, _+_, _*_, _≤_, _<_}
 use mathlib.Core.Bool.{cond}
-use mathlib.Core.List.{List, [], _++_}
+use mathlib.Core.List.{List, _++_}
 use mathlib.Core.Logic.{_↔_}
 use mathlib.Core.Path.{_≡_, sym, _∙_}
 use lib.ListN.{length, drop, getD}
-use Rattle.pdi_spec.specs.{Limits.mostPartitions, Limits.headWidth, Limits.rowWidth, Limits.bufferNumbers, Limits.bufferBytes, Limits.answerUnit, Limits.lastRule, File.partitions, Ranges.body, Rules.imageTooLong, RuleList.readingRules, RuleList.plainRules, RuleList.withRows, RuleList.withHostRows, Verdict.Keeps, Verdict.FirstRefusal, Answers.billed, Answers.headAndRows, Answers.cut, Answers.asked, Answers.emptyPart, Answers.readBy, Answers.rowsBy, Answers.billBy, Answers.partBy, Answers.bodyBy, Answers.readAnswer, Answers.readRows, Answers.billAnswer, Answers.bodyPart, Answers.bodyAnswer, Host.hostNumbers, Host.hostReadBy, Host.hostAnswer, Host.hostRows, Stated.byRows, Stated.inSpans, Loading.Memory, Loading.Feed, Loading.Whole, Loading.Loaded, Twice.PositionTwice, Twice.AddressTwice, Twice.SmallestMeeting}
+use Rattle.pdi_spec.specs.{Limits.headWidth, Limits.rowWidth, Limits.bufferNumbers, Limits.bufferBytes, Limits.answerUnit, File.partitions, Ranges.body, Rules.imageTooLong, RuleList.readingRules, RuleList.plainRules, RuleList.withRows, RuleList.withHostRows, Verdict.Keeps, Verdict.FirstRefusal, Answers.billed, Answers.headAndRows, Answers.cut, Answers.asked, Answers.RefusedCall, Answers.readBy, Answers.rowsBy, Answers.billBy, Answers.partBy, Answers.bodyBy, Answers.readAnswer, Answers.readRows, Answers.billAnswer, Answers.bodyPart, Answers.bodyAnswer, Host.hostNumbers, Host.hostReadBy, Host.hostAnswer, Host.hostRows, Stated.byRows, Stated.inSpans, Loading.Memory, Loading.Feed, Loading.Whole, Loading.Loaded, Twice.ClaimedTwice}
 use Rattle.pdi_spec.specs.Laws.{Plain.plain}
 use Rattle.pdi_spec.specs.Laws
 
@@ -18,17 +18,10 @@ module _ (image : List ℕ) (place : ℕ) where
     -- A refused read has a number from 1 to 19 and a p of at most 32, leaves the buffer as found, and, where the buffer serves, the bill is
     -- 0 and every body is empty.
     pub read-refusal : (readAnswer image place rows ≡ 0 → ⊥)
-        → (1 ≤ readAnswer image place rows / answerUnit)
-        × (readAnswer image place rows / answerUnit ≤ lastRule)
-        × (readAnswer image place rows % answerUnit ≤ mostPartitions)
-        × (readRows image place rows ≡ rows)
-        × (bufferNumbers ≤ length rows
-        → (billAnswer image place ≡ 0) × ((p : ℕ) → (bodyPart image place p ≡ emptyPart) × (bodyAnswer image place p ≡ [])))
+        → RefusedCall image place (readAnswer image place rows) rows (readRows image place rows) bufferNumbers
     unfolding readBy withRows
     read-refusal n =
-        let t = Laws.Questions.refusal-tells bufferNumbers (length rows) (asked image place) n in
-        let rest = Laws.Questions.refused-others plainRules image place bufferNumbers (length rows) n in
-        (t .0, t .1, t .2, Laws.Answers.read-refused plainRules image place rows n, rest)
+        Laws.Questions.refused-call image place bufferNumbers rows _ n (Laws.Answers.read-refused plainRules image place rows n)
 
     -- ---- demand 2: acceptances and refusals, exactly
 
@@ -46,15 +39,9 @@ module _ (image : List ℕ) (place : ℕ) where
     -- With rules 1 to 17 kept, 64 × 18 exactly where a position is claimed twice, and of number 19 exactly where no position is, but an
     -- address is; p is then the smallest partition whose load range meets an earlier one's.
     pub read-twice : Keeps (withRows (length rows) readingRules) (asked image place)
-        → ((readAnswer image place rows ≡ answerUnit * 18) ↔ PositionTwice (asked image place))
-        × ((readAnswer image place rows / answerUnit ≡ 19) ↔ ((PositionTwice (asked image place) → ⊥) × AddressTwice (asked image place)))
-        × (readAnswer image place rows / answerUnit ≡ 19 → SmallestMeeting (asked image place) (readAnswer image place rows % answerUnit))
+        → ClaimedTwice (asked image place) (readAnswer image place rows)
     unfolding readBy withRows
-    read-twice k = (
-      Laws.Questions.answers-18 bufferNumbers (length rows) (asked image place) k,
-      Laws.Questions.answers-19 bufferNumbers (length rows) (asked image place) k,
-      Laws.Questions.smallest-19 bufferNumbers (length rows) (asked image place) k,
-    )
+    read-twice = Laws.Questions.claimed-twice bufferNumbers (length rows) (asked image place)
 
     -- An accepted read leaves the head and the rows that the headers state, and behind them the buffer as found; the bill is the headers',
     -- and body p, for p from 1 to N, is that part of the image.
@@ -109,20 +96,12 @@ module _ (image : List ℕ) (place : ℕ) where
         × (length rows < bufferNumbers → readAnswer image place rows ≡ answerUnit * cond (imageTooLong (asked image place)) 1 2)
     host-beside-read rows = (Laws.Questions.host-beside plainRules image place rows bytes, host-short, read-short rows)
 
-    -- A refused call has a number from 1 to 19 and a p of at most 32, leaves the buffer as found, and, where the buffer serves, the bill is
-    -- 0 and every body is empty.
+    -- A refused call is as a refused read is.
     pub host-refusal : (hostAnswer image place bytes ≡ 0 → ⊥)
-        → (1 ≤ hostAnswer image place bytes / answerUnit)
-        × (hostAnswer image place bytes / answerUnit ≤ lastRule)
-        × (hostAnswer image place bytes % answerUnit ≤ mostPartitions)
-        × (hostRows image place bytes ≡ bytes)
-        × (bufferBytes ≤ length bytes
-        → (billAnswer image place ≡ 0) × ((p : ℕ) → (bodyPart image place p ≡ emptyPart) × (bodyAnswer image place p ≡ [])))
+        → RefusedCall image place (hostAnswer image place bytes) bytes (hostRows image place bytes) bufferBytes
     unfolding hostReadBy withHostRows
     host-refusal n =
-        let t = Laws.Questions.refusal-tells bufferBytes (length bytes) (asked image place) n in
-        let rest = Laws.Questions.refused-others plainRules image place bufferBytes (length bytes) n in
-        (t .0, t .1, t .2, Laws.Answers.host-refused plainRules image place bytes n, rest)
+        Laws.Questions.refused-call image place bufferBytes bytes _ n (Laws.Answers.host-refused plainRules image place bytes n)
 
     -- The host's call answers 0 exactly where every rule of its list is kept.
     pub host-accepted-exactly : (hostAnswer image place bytes ≡ 0) ↔ Keeps (withHostRows (length bytes) plainRules) (asked image place)
@@ -136,18 +115,11 @@ module _ (image : List ℕ) (place : ℕ) where
     unfolding hostReadBy withHostRows
     host-refused-exactly = Laws.Questions.refusal-exactly plain bufferBytes (length bytes) (asked image place)
 
-    -- With rules 1 to 17 kept, 64 × 18 exactly where a position is claimed twice, and of number 19 exactly where no position is, but an
-    -- address is; p is then the smallest partition whose load range meets an earlier one's.
+    -- What is claimed twice it refuses as read does.
     pub host-twice : Keeps (withHostRows (length bytes) readingRules) (asked image place)
-        → ((hostAnswer image place bytes ≡ answerUnit * 18) ↔ PositionTwice (asked image place))
-        × ((hostAnswer image place bytes / answerUnit ≡ 19) ↔ ((PositionTwice (asked image place) → ⊥) × AddressTwice (asked image place)))
-        × (hostAnswer image place bytes / answerUnit ≡ 19 → SmallestMeeting (asked image place) (hostAnswer image place bytes % answerUnit))
+        → ClaimedTwice (asked image place) (hostAnswer image place bytes)
     unfolding hostReadBy withHostRows
-    host-twice k = (
-      Laws.Questions.answers-18 bufferBytes (length bytes) (asked image place) k,
-      Laws.Questions.answers-19 bufferBytes (length bytes) (asked image place) k,
-      Laws.Questions.smallest-19 bufferBytes (length bytes) (asked image place) k,
-    )
+    host-twice = Laws.Questions.claimed-twice bufferBytes (length bytes) (asked image place)
 
     -- Where it accepts, every whole list loads by the rows in its bytes, and the bill is the count of positions in a span of those rows.
     pub host-loads : ((i : ℕ) → getD image i 0 < 256) → hostAnswer image place bytes ≡ 0

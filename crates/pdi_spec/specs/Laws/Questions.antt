@@ -9,7 +9,7 @@ use mathlib.Core.Path.{_≡_, refl, sym, _∙_, ap}
 use lib.Dec.{ltb}
 use lib.ListN.{length}
 use borrow.Author.Tests.{ltb-true, ltb-false, lt-ltb}
-use Rattle.pdi_spec.specs.{Limits.mostPartitions, Limits.bufferNumbers, Limits.bufferBytes, Limits.answerUnit, Limits.lastRule, Lists.firstOf, File.File, Rules.imageTooLong, Rules.bufferTooShort, RuleList.rule1, RuleList.rule2, RuleList.rule18, RuleList.rule19, RuleList.readingRules, RuleList.plainRules, RuleList.withoutBuffer, RuleList.withBuffer, RuleList.withRows, RuleList.withHostRows, Verdict.Rule, Verdict.once, Verdict.Outcome, Verdict.accepted, Verdict.refused, Verdict.verdict, Verdict.Kept, Verdict.Keeps, Verdict.FirstRefusal, Answers.answer, Answers.ifAccepted, Answers.asked, Answers.emptyPart, Answers.billUnder, Answers.readBy, Answers.billBy, Answers.partBy, Answers.bodyBy, Host.hostReadBy, Twice.PositionTwice, Twice.AddressTwice, Twice.SmallestMeeting, Supported.Supported}
+use Rattle.pdi_spec.specs.{Limits.mostPartitions, Limits.bufferNumbers, Limits.bufferBytes, Limits.answerUnit, Limits.lastRule, Lists.firstOf, File.File, Rules.imageTooLong, Rules.bufferTooShort, RuleList.rule1, RuleList.rule2, RuleList.rule18, RuleList.rule19, RuleList.readingRules, RuleList.plainRules, RuleList.withoutBuffer, RuleList.withBuffer, RuleList.withRows, RuleList.withHostRows, Verdict.Rule, Verdict.once, Verdict.Outcome, Verdict.accepted, Verdict.refused, Verdict.verdict, Verdict.Kept, Verdict.Keeps, Verdict.FirstRefusal, Answers.answer, Answers.ifAccepted, Answers.asked, Answers.RefusedCall, Answers.billUnder, Answers.readBy, Answers.billBy, Answers.partBy, Answers.bodyBy, Host.hostReadBy, Twice.PositionTwice, Twice.AddressTwice, Twice.SmallestMeeting, Twice.ClaimedTwice, Supported.Supported}
 use Rattle.pdi_spec.specs.Laws.{Tests.either, Verdict.verdict-broken, Verdict.verdict-kept, Verdict.accepted-keeps, Verdict.keeps-accepted, Verdict.refused-first, Verdict.first-refused, Refusals.answer-refused, Refusals.with-room, Refusals.zero-accepted, Refusals.refusal-p, Stated.headers-state, Stated.accepted-bill, Answers.listed, Answers.bill-refused, Answers.part-refused, Answers.body-refused, Answers.host-same, Plain.plain, Plain.buffer-split, Plain.buffer-small, ClashVerdict.refused-18, ClashVerdict.refused-19, ClashVerdict.refused-19-some}
 
 -- ---- a list with a row buffer that has `have`, where `least` serves
@@ -68,7 +68,7 @@ module _ (least have : ℕ) (f : File) where
       let small = buffer-small least have f (t .0) (t .1) (t .2) in
       (t .0, t .1, t .2, ap answer (t .2), small .0, small .1, small .2)
 
-  pub refusal-tells : (given ≡ 0 → ⊥) → (1 ≤ given / answerUnit) × (given / answerUnit ≤ lastRule) × (given % answerUnit ≤ mostPartitions)
+  refusal-tells : (given ≡ 0 → ⊥) → (1 ≤ given / answerUnit) × (given / answerUnit ≤ lastRule) × (given % answerUnit ≤ mostPartitions)
   refusal-tells n =
       let t = told n in
       (omega (arith, t .3, t .4, t .5, t .6), omega (arith, t .3, t .4, t .5, t .6), omega (arith, t .3, t .4, t .5, t .6))
@@ -92,7 +92,7 @@ module _ (least have : ℕ) (f : File) where
     split : verdict (withBuffer least have plainRules) f ≡ verdict (before ++ (rule18 ∷ rule19 ∷ [])) f
     split = ap (λ (l : List Rule). verdict l f) (buffer-split least have)
 
-    pub answers-18 : (given ≡ answerUnit * 18) ↔ PositionTwice f
+    answers-18 : (given ≡ answerUnit * 18) ↔ PositionTwice f
     unfolding answer
     answers-18 =
         let law = refused-18 f before [] before-kept headers-kept none-after 0 in (
@@ -108,7 +108,7 @@ module _ (least have : ℕ) (f : File) where
         let k : t .0 ≡ 19 = omega (arith, t .3, t .6) in
         (t .1, sym split ∙ t .2 ∙ ap (λ (n : ℕ). refused n (t .1)) k, omega (arith, t .3, t .6))
 
-    pub answers-19 : (given / answerUnit ≡ 19) ↔ ((PositionTwice f → ⊥) × AddressTwice f)
+    answers-19 : (given / answerUnit ≡ 19) ↔ ((PositionTwice f → ⊥) × AddressTwice f)
     unfolding answer
     answers-19 =
         let law = refused-19-some f before [] before-kept headers-kept none-after in (
@@ -121,23 +121,36 @@ module _ (least have : ℕ) (f : File) where
         )
 
     -- and then p is the smallest partition that meets an earlier one
-    pub smallest-19 : given / answerUnit ≡ 19 → SmallestMeeting f (given % answerUnit)
+    smallest-19 : given / answerUnit ≡ 19 → SmallestMeeting f (given % answerUnit)
     smallest-19 e =
         let t = nineteen e in
         rw (t .2) (refused-19 f before [] before-kept headers-kept none-after (t .0) .0 (t .1) .1)
 
+    pub claimed-twice : ClaimedTwice f (answer (verdict (withBuffer least have plainRules) f))
+    claimed-twice = record { stored = answers-18; loaded = answers-19; smallest-p = smallest-19 }
+
 -- ---- bill and body beside an answer
 
-module _ (own : List Rule) (image : List ℕ) (place least have : ℕ) where
-  -- where a buffer that serves doesn't help, bill is 0 and every body empty
-  pub refused-others : (answer (verdict (withBuffer least have own) (asked image place)) ≡ 0 → ⊥) → least ≤ have
-      → (billBy own image place ≡ 0) × ((p : ℕ) → (partBy own image place p ≡ emptyPart) × (bodyBy own image place p ≡ []))
-  unfolding billBy partBy bodyBy
-  refused-others n h =
-      let f = asked image place in
-      let t = answer-refused _ f n in
-      let e = sym (with-room least have own f h) ∙ t .2 in
-      (bill-refused _ f _ _ e, λ p. (part-refused _ f _ _ e p, body-refused _ f _ _ e p))
+-- plain reading, refused with a row buffer of which `least` would serve
+pub refused-call : (image : List ℕ) (place least : ℕ) (found left : List ℕ)
+    → (answer (verdict (withBuffer least (length found) plainRules) (asked image place)) ≡ 0 → ⊥) → left ≡ found
+    → RefusedCall image place (answer (verdict (withBuffer least (length found) plainRules) (asked image place))) found left least
+unfolding billBy partBy bodyBy
+refused-call image place least found left n same =
+    let f = asked image place in
+    let tells = refusal-tells least (length found) f n in
+    let t = answer-refused _ f n in
+    let e : least ≤ length found → verdict (withoutBuffer plainRules) f ≡ refused (t .0) (t .1) =
+    λ h. sym (with-room least (length found) plainRules f h) ∙ t .2 in
+    record {
+      from-1 = tells .0;
+      to-last = tells .1;
+      small-p = tells .2;
+      as-found = same;
+      bills-nothing = λ h. bill-refused _ f _ _ (e h);
+      no-part = λ h p. part-refused _ f _ _ (e h) p;
+      no-body = λ h p. body-refused _ f _ _ (e h) p;
+    }
 
 -- no image is billed more than its length
 pub bill-at-most : {own : List Rule} (s : Supported own) (image : List ℕ) (place : ℕ) → billBy own image place ≤ length image
