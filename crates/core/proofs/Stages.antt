@@ -2,12 +2,12 @@
 use Prim.Native.Nat.{ℕ}
 use native.Mathlib.Omega.{arith}
 use mathlib.Core.Bool.{Bool, true, false}
-use mathlib.Core.List.{List, [], _∷_, _++_}
+use mathlib.Core.List.{List, [], _∷_}
 use mathlib.Core.Option.{Option·elim}
 use mathlib.Core.Path.{_≡_, refl, sym, _∙_, ap}
 use Rattle.pdi_spec.specs.File.{File}
 use Rattle.pdi_spec.specs.Lists.{firstOf}
-use Rattle.pdi_spec.specs.RuleList.{rule10, rule17, rule18, rule19, headerRules, tableRules, partitionRules, clashRules, readingRules, plainRules}
+use Rattle.pdi_spec.specs.RuleList.{rule10, rule17, rule18, rule19, headerRules, partitionRules, clashRules, laterRules}
 use Rattle.pdi_spec.specs.Verdict.{Rule, once, Outcome, accepted, refused, verdict}
 use Rattle.pdi_spec.specs.Laws.Verdict.{andThen, verdict-append}
 use Rattle.chain_rules.specs.Answers.{answerOf}
@@ -37,22 +37,17 @@ pub never : {r : Answer} {k p : ℕ} → r ≡ Answer.Refused k p → r ≡ Answ
 never e q = let z : _≡_ {A = ℕ} 0 1 = cc in omega arith
 
 -- rules 10 to 19, stage by stage
-pub partitions-split : (f : File) → verdict (partitionRules ++ clashRules) f
+pub later-split : (f : File) → verdict laterRules f
     ≡ andThen (verdict (rule10 ∷ []) f)
     (andThen (verdict headerRules f) (andThen (verdict (rule17 ∷ []) f) (andThen (verdict (rule18 ∷ []) f) (verdict (rule19 ∷ []) f))))
-unfolding partitionRules clashRules headerRules
-partitions-split f =
+unfolding laterRules partitionRules clashRules headerRules
+later-split f =
     verdict-append (rule10 ∷ []) _ f
     ∙ ap (andThen (verdict (rule10 ∷ []) f))
     (verdict-append headerRules _ f
     ∙ ap (andThen (verdict headerRules f))
     (verdict-append (rule17 ∷ []) _ f
     ∙ ap (andThen (verdict (rule17 ∷ []) f)) (verdict-append (rule18 ∷ []) (rule19 ∷ []) f)))
-
--- plain reading's rules: the table's, and then those of the partitions
-pub plain-split : tableRules ++ (partitionRules ++ clashRules) ≡ plainRules
-unfolding plainRules readingRules tableRules
-plain-split = refl
 
 -- ---- rules that are tried once, before them
 

@@ -1,10 +1,9 @@
 // The core: a question's rules in their order, one stage after another. Every question stands on it.
 ghost use Prim.Native.Nat.{_≤_};
-ghost use mathlib.Core.List.{_++_};
 ghost use mathlib.Core.Path.{_≡_};
 ghost use lib.ListN.{length};
 ghost use Rattle.pdi_spec.specs.Limits.{mostPartitions};
-ghost use Rattle.pdi_spec.specs.RuleList.{clashRules, partitionRules, plainRules};
+ghost use Rattle.pdi_spec.specs.RuleList.{laterRules, plainRules};
 ghost use Rattle.chain_rules.specs.Chain.{IsTable};
 ghost use Rattle.core.specs.Readings.{CoreAnswer, PartitionsAnswer, coreRules, numberIn};
 use chain_rules::Answer;
@@ -34,8 +33,7 @@ fn check_partitions(
     requires few { ⌜ table .partitions ≤ mostPartitions ⌝ }
     requires offsets { ⌜ length (now offsets) ≡ mostPartitions ⌝ }
     requires entries { ⌜ length (now entries) ≡ mostPartitions ⌝ }
-    ensures { λ r. ⌜ PartitionsAnswer (now (image .entry)) table (partitionRules ++ clashRules) (now (offsets .exit))
-        (now (entries .exit)) r ⌝ }
+    ensures { λ r. ⌜ PartitionsAnswer (now (image .entry)) table laterRules (now (offsets .exit)) (now (entries .exit)) r ⌝ }
 {
     let chain = chain_rules::check_chain(image, table, offsets);
     let Answer::Kept = chain else {

@@ -9,6 +9,7 @@ use Rattle.headers.specs.declared.table.TableHeader.{TableHeader}
 use Rattle.headers.specs.declared.partition.PartitionHeader.{PartitionHeader}
 use Rattle.headers.specs.declared.boot.BootHeader.{BootHeader}
 use Rattle.headers.specs.declared.entry.HashEntry.{HashEntry}
+use Rattle.headers.specs.declared.image.ImageHeader.{ImageHeader}
 
 abbrev pub blockOf : Block → spec.Block
 blockOf b = record { size = b .size; offset = b .offset }
@@ -54,6 +55,10 @@ headerOf h =
       reserved = h .reserved;
       checksum = h .checksum;
     }
+
+abbrev pub imageHeaderOf : ImageHeader → spec.ImageHeader
+imageHeaderOf h =
+    record { at = h .at; firstHeaderOffset = h .«first_header_offset»; partitions = h .partitions; checksum = h .checksum }
 
 abbrev pub bootOf : BootHeader → Boot
 bootOf b =

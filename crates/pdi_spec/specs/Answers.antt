@@ -1,4 +1,5 @@
--- Document 01, "What the reader does" and "What an acceptance writes": the complete answers of read, bill and body.
+-- Document 01, "What the reader does" and "What an acceptance writes": the complete answers of read, bill and body; and document 02, CR 1:
+-- that of owner.
 -- Assumes nothing.
 use Prim.Native.Nat.{ℕ, _+_, _*_, _/_, _%_, _≤_}
 use mathlib.Core.Bool.{cond}
@@ -9,6 +10,7 @@ use Rattle.pdi_spec.specs.Limits.{mostPartitions, answerUnit, lastRule}
 use Rattle.pdi_spec.specs.Lists.{sumOf}
 use Rattle.pdi_spec.specs.File.{File, table, partitions, partitionNumbers, header, hashBlock}
 use Rattle.pdi_spec.specs.HashBlock.{hashEntryIn}
+use Rattle.pdi_spec.specs.Images.{ownerImage}
 use Rattle.pdi_spec.specs.Ranges.{Range, span, body, loadRange}
 use Rattle.pdi_spec.specs.Verdict.{Rule, Outcome, accepted, refused, verdict}
 use Rattle.pdi_spec.specs.Rules.{notFrom}
@@ -23,6 +25,10 @@ answer (refused number p) = answerUnit * number + p
 unfoldable pub ifAccepted : {A : Type 0} → Outcome → A → A → A
 ifAccepted accepted yea nay = yea
 ifAccepted (refused number p) yea nay = nay
+
+-- one thing of a partition p of an accepted file, another where the file is refused or p isn't 1 to N
+unfoldable pub ifPartition : {A : Type 0} → List Rule → File → ℕ → A → A → A
+ifPartition rs f p yea nay = ifAccepted (verdict rs f) (cond (notFrom 1 (partitions f) p) nay yea) nay
 
 -- "for each partition, in chain order, eight: span start in bytes, span length in bytes, loaded bytes, load address,
 -- execution address, key word, byte offset of its hash entry (0 if none), attribute word"
@@ -94,10 +100,14 @@ emptyPart = record { start = 0; size = 0 }
 -- "hands back the stored bytes of that partition as a part of the lent image. It is empty if the image is refused or p isn't
 -- 1 to N": which part of the image that is, and its bytes
 unfoldable pub partUnder : List Rule → File → ℕ → Range
-partUnder rs f p = ifAccepted (verdict rs f) (cond (notFrom 1 (partitions f) p) emptyPart (body f p)) emptyPart
+partUnder rs f p = ifPartition rs f p (body f p) emptyPart
 
 unfoldable pub bodyUnder : List Rule → File → ℕ → List ℕ
 bodyUnder rs f p = cut (partUnder rs f p) (f .bytes)
+
+-- document 02, CR 1: "the owner image of partition p, counted from 1, or 0 if the image is refused or p isn't 1 to N"
+unfoldable pub ownerUnder : List Rule → File → ℕ → ℕ
+ownerUnder rs f p = ifPartition rs f p (ownerImage f p) 0
 
 -- ---- questions, each given by its own rules of the image, for any image, place, row buffer and p
 
@@ -119,7 +129,10 @@ partBy own image place p = partUnder (withoutBuffer own) (asked image place) p
 unfoldable pub bodyBy : List Rule → List ℕ → ℕ → ℕ → List ℕ
 bodyBy own image place p = bodyUnder (withoutBuffer own) (asked image place) p
 
--- ---- plain reading: the three questions of document 01
+unfoldable pub ownerBy : List Rule → List ℕ → ℕ → ℕ → ℕ
+ownerBy own image place p = ownerUnder (withoutBuffer own) (asked image place) p
+
+-- ---- plain reading: the three questions of document 01, and that of document 02, CR 1
 
 abbrev pub readAnswer : List ℕ → ℕ → List ℕ → ℕ
 readAnswer = readBy plainRules
@@ -136,6 +149,9 @@ bodyPart = partBy plainRules
 
 abbrev pub bodyAnswer : List ℕ → ℕ → ℕ → List ℕ
 bodyAnswer = bodyBy plainRules
+
+abbrev pub ownerAnswer : List ℕ → ℕ → ℕ → ℕ
+ownerAnswer = ownerBy plainRules
 
 -- ---- what is claimed of a refused call, read's or the host's: `given` is its answer, `found` and `left` are its row buffer before and
 -- after, and `least` is the least that serves

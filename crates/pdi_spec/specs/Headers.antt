@@ -1,4 +1,5 @@
--- Document 01, "The words": the table, a partition header and the boot header, field by field, as they are read at a byte offset.
+-- Document 01, "The words": the table, a partition header and the boot header, field by field, as they are read at a byte offset; and
+-- document 02, CR 1: an image header.
 -- "header, data, checksum and hash block offsets count words from image byte 0; hash block, key and signature lengths and all of the
 -- boot header's lengths and offsets count bytes." Assumes nothing.
 use Prim.Native.Nat.{ℕ, _+_, _*_, _^_}
@@ -127,6 +128,31 @@ headerFrom bytes at =
       signatureActual = wordAt bytes (at + 0x74);
       reserved = wordAt bytes (at + 0x78);
       checksum = wordAt bytes (at + 0x7C);
+    }
+
+-- ---- an image header (document 02, CR 1)
+
+-- "an image header has 16 words": its size in words, and in bytes
+abbrev pub imageHeaderWords : ℕ
+imageHeaderWords = 16
+
+abbrev pub imageHeaderSize : ℕ
+imageHeaderSize = 4 * imageHeaderWords
+
+pub record ImageHeader : Type 0 where
+  pub at : ℕ
+  pub firstHeaderOffset : ℕ
+  pub partitions : ℕ
+  pub checksum : ℕ
+
+-- "0 the word offset of its first partition header, 1 its number of partitions, 15 a checksum"; words 2 to 14 aren't examined
+unfoldable pub imageHeaderFrom : List ℕ → ℕ → ImageHeader
+imageHeaderFrom bytes at =
+    record {
+      at = at;
+      firstHeaderOffset = wordAt bytes (at + 4 * 0);
+      partitions = wordAt bytes (at + 4 * 1);
+      checksum = wordAt bytes (at + 4 * 15);
     }
 
 -- ---- the boot header (001)

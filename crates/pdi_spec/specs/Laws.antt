@@ -10,6 +10,7 @@ pub mod Envelope
 pub mod Firsts
 pub mod HashBlock
 pub mod HostNumbers
+pub mod Images
 pub mod Inside
 pub mod Kept
 pub mod Lists

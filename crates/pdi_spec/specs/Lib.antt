@@ -7,6 +7,8 @@ pub mod File
 pub mod HashBlock
 pub mod Headers
 pub mod Host
+pub mod ImageRules
+pub mod Images
 pub mod Keys
 pub mod Laws
 pub mod Limits

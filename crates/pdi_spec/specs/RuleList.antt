@@ -1,5 +1,5 @@
--- Document 01's table of rules: each row by its number, with its condition and by its kind the p's that it is tried at; and the lists
--- that questions are given by. Assumes nothing.
+-- Document 01's table of rules, and document 02's: each row by its number, with its condition and by its kind the p's that it is tried at;
+-- and the lists that questions are given by. Assumes nothing.
 use Prim.Native.Nat.{ℕ}
 use mathlib.Core.Bool.{Bool}
 use mathlib.Core.List.{List, [], _∷_, _++_}
@@ -8,6 +8,7 @@ use Rattle.pdi_spec.specs.Headers.{Table, Header}
 use Rattle.pdi_spec.specs.File.{File, table, header}
 use Rattle.pdi_spec.specs.Verdict.{Rule, once, each, eachAndTable}
 use Rattle.pdi_spec.specs.Rules.{imageTooLong, bufferTooShort, tableOutside, tableChecksumWrong, kindUnknown, tableFieldsBad, tableKeyUnknown, bootHeaderWrong, imageHeadersOutside, chainBroken, headerChecksumBad, attributesBad, keyUnknown, lengthsBad, spanOutside, loadAddressBad, hashBlockWrong, storedRangesClash, loadRangesClash}
+use Rattle.pdi_spec.specs.ImageRules.{imagesBad}
 
 -- a condition on the table, alone or with the image's bytes
 abbrev pub ofTable : (Table → Bool) → File → Bool
@@ -83,6 +84,10 @@ rule18 = once 18 storedRangesClash
 abbrev pub rule19 : Rule
 rule19 = each 19 loadRangesClash
 
+-- document 02, CR 1
+abbrev pub rule20 : Rule
+rule20 = once 20 imagesBad
+
 -- ---- lists of them
 
 -- of the table, the boot header and the image headers
@@ -105,9 +110,13 @@ readingRules = tableRules ++ partitionRules
 unfoldable pub clashRules : List Rule
 clashRules = rule18 ∷ rule19 ∷ []
 
+-- all that come after the table's: 10 to 19
+unfoldable pub laterRules : List Rule
+laterRules = partitionRules ++ clashRules
+
 -- plain reading's rules of the image itself: 3 to 19
 unfoldable pub plainRules : List Rule
-plainRules = readingRules ++ clashRules
+plainRules = tableRules ++ laterRules
 
 -- ---- A question is given by the rules of the image itself that it tries, `own`. Before them comes rule 1, and rule 2 where it has a
 -- row buffer.

@@ -8,7 +8,7 @@ use Rattle.pdi_spec.specs.Bench.{starred}
 use Rattle.pdi_spec.specs.Envelope.{envelopeHead}
 use Rattle.pdi_spec.specs.Lists.{firstOf}
 use Rattle.pdi_spec.specs.Ranges.{Range, body, addressSpace}
-use Rattle.pdi_spec.specs.RuleList.{rule17, tableRules, headerRules, partitionRules, readingRules, clashRules, plainRules, withBuffer, withRows}
+use Rattle.pdi_spec.specs.RuleList.{rule17, tableRules, headerRules, partitionRules, clashRules, laterRules, plainRules, withBuffer, withRows}
 use Rattle.pdi_spec.specs.Verdict.{once, each, eachAndTable, accepted, verdict, Kept, Keeps}
 use Rattle.pdi_spec.specs.Laws.Kept.{by-number}
 use Rattle.pdi_spec.specs.Claims
@@ -65,7 +65,7 @@ verdict-is image place rows e =
 
 -- rule 17 is kept, as one of them
 blocks-kept : (image : List ℕ) (place : ℕ) (rows : List ℕ) → readAnswer image place rows ≡ 0 → Kept rule17 (asked image place)
-unfolding withRows withBuffer plainRules readingRules tableRules partitionRules headerRules clashRules firstOf once each eachAndTable Keeps
+unfolding withRows withBuffer plainRules tableRules laterRules partitionRules headerRules clashRules firstOf once each eachAndTable Keeps
 blocks-kept image place rows e =
     Claims.Answers.read-accepted-exactly image place rows .0 e rule17
     (mem-cons-of-mem _ (mem-cons-of-mem _ (by-number 17 plainRules refl)))

@@ -1,26 +1,22 @@
 -- `core::check` meets its contract: each way out says what the whole list of rules says (Outcomes.antt). Assumes nothing.
 use Prim.Native.Nat.{ℕ}
 use borrow.Author.Needs.{needs}
-use mathlib.Core.List.{List, _++_}
-use mathlib.Core.Path.{_≡_, sym, _∙_, ap}
-use Rattle.pdi_spec.specs.RuleList.{partitionRules, clashRules, plainRules, tableRules}
+use mathlib.Core.List.{_++_}
+use mathlib.Core.Path.{_≡_, refl, sym, _∙_, ap}
+use Rattle.pdi_spec.specs.RuleList.{laterRules, plainRules, tableRules}
 use Rattle.pdi_spec.specs.Answers.{asked}
 use Rattle.pdi_spec.specs.File.{File}
-use Rattle.pdi_spec.specs.Verdict.{Rule, refused, verdict}
+use Rattle.pdi_spec.specs.Verdict.{refused, verdict}
 use Rattle.core.specs.Readings.{coreRules, numberIn}
 use Rattle.pdi_spec.specs.Laws.Calls.{nothing}
 use Rattle.core.proofs.Outcomes.{refused-told, accepted-told, too-long, too-short, passes, table-refused, TableKept, table-checked, all-kept, one-refused}
-use Rattle.core.proofs.Stages.{plain-split}
 use Rattle.core.proofs.check.Statement.{statement}
 use Rattle.core.proofs.check.Tie as tie
 
--- the rules after the table's
-abbrev later : List Rule
-later = partitionRules ++ clashRules
-
--- the list is the table's rules and these
-is-plain : (f : File) → verdict (tableRules ++ later) f ≡ verdict plainRules f
-is-plain f = ap (λ (rs : List Rule). verdict rs f) plain-split
+-- the list is the table's rules and the later ones
+is-plain : (f : File) → verdict (tableRules ++ laterRules) f ≡ verdict plainRules f
+unfolding plainRules
+is-plain f = refl
 
 returns : tie.Need-returns
 returns c =
@@ -40,7 +36,7 @@ returns-3 c =
     let first = c .before .enum-told .given .1 in
     refused-told
     (ap (λ (k : ℕ). refused k 0) (c .number-in .ensures ∙ ap numberIn first)
-    ∙ table-refused later _ (sym (c .before .before .before .check-table .ensures) ∙ first)
+    ∙ table-refused laterRules _ (sym (c .before .before .before .check-table .ensures) ∙ first)
     ∙ is-plain _
     ∙ passes (a .image .now) (a .place) (a .short) plainRules (d .before .if1 .left) (d .if2 .left))
 
@@ -55,7 +51,7 @@ checked : (c : tie.After-first) → TableKept (entry c .args .image .now) (entry
 checked c = table-checked _ _ (sym (c .before .before .check-table .ensures) ∙ c .first .given .1)
 
 -- past rules 1 and 2, the list is the image's own
-left : (c : tie.After-first) → verdict (tableRules ++ later) (file-of c)
+left : (c : tie.After-first) → verdict (tableRules ++ laterRules) (file-of c)
     ≡ verdict (coreRules (entry c .args .short) plainRules) (file-of c)
 left c =
     let a = entry c .args in
@@ -78,14 +74,14 @@ returns-4 c =
     let p = c .before .before .before .before .check-partitions .ensures in
     let first = c .before .before .before .before .before .before .before .before in
     let k = checked first in
-    accepted-told (all-kept _ _ later k (p .told) kept ∙ left first)
+    accepted-told (all-kept _ _ laterRules k (p .told) kept ∙ left first)
     (record { at-place = k .at-place; chain = p .chain kept; entries-are = p .entries-are kept; billed-is = c .billed .ensures })
 
 returns-5 : tie.Need-returns-5
 returns-5 c =
     let p = c .before .before .before .check-partitions .ensures in
     let first = c .before .before .before .before .before .before .before in
-    refused-told (one-refused _ _ later (checked first) (p .told) (c .before .later .given .1) ∙ left first)
+    refused-told (one-refused _ _ laterRules (checked first) (p .told) (c .before .later .given .1) ∙ left first)
 
 pub check-spec : {M : Type 1} → statement M
 check-spec =

@@ -2,10 +2,10 @@
 -- nothing.
 use borrow.Author.Needs.{needs}
 use Prim.Native.Nat.{ℕ}
-use mathlib.Core.List.{List, [], _∷_, _++_}
+use mathlib.Core.List.{List, [], _∷_}
 use mathlib.Core.Path.{_≡_, sym, _∙_, ap}
 use Rattle.pdi_spec.specs.File.{File}
-use Rattle.pdi_spec.specs.RuleList.{rule10, rule17, rule18, rule19, headerRules, partitionRules, clashRules}
+use Rattle.pdi_spec.specs.RuleList.{rule10, rule17, rule18, rule19, headerRules, laterRules}
 use Rattle.pdi_spec.specs.Verdict.{Outcome, verdict}
 use Rattle.pdi_spec.specs.Laws.Verdict.{andThen}
 use Rattle.headers.specs.declared.table.TableHeader.{TableHeader}
@@ -13,7 +13,7 @@ use Rattle.chain_rules.specs.Answers.{answerOf}
 use Rattle.chain_rules.specs.Chain.{fileOf}
 use Rattle.chain_rules.specs.declared.Answer.{Answer}
 use Rattle.core.specs.Readings.{PartitionsAnswer}
-use Rattle.core.proofs.Stages.{stops, goes-on, never, partitions-split}
+use Rattle.core.proofs.Stages.{stops, goes-on, never, later-split}
 use Rattle.core.proofs.check_partitions.Statement.{statement}
 use Rattle.core.proofs.check_partitions.Tie as tie
 
@@ -35,10 +35,10 @@ from-11 f = andThen (verdict headerRules f) (from-17 f)
 
 -- the answer is that of what is left
 abbrev Left : tie.Start → Outcome → Type 0
-Left s o = answerOf o ≡ answerOf (verdict (partitionRules ++ clashRules) (file-of s))
+Left s o = answerOf o ≡ answerOf (verdict laterRules (file-of s))
 
 whole : (s : tie.Start) → Left s (andThen (verdict (rule10 ∷ []) (file-of s)) (from-11 (file-of s)))
-whole s = ap answerOf (sym (partitions-split (file-of s)))
+whole s = ap answerOf (sym (later-split (file-of s)))
 
 -- the function's entry, from after each stage that was kept
 abbrev entry-10 : tie.After-enum-told → tie.Start
@@ -69,8 +69,8 @@ left-19 c = goes-on _ _ (c .before .before .check-stored .ensures) (c .enum-told
 
 -- a refusal hands nothing on
 refusal : {bytes : List ℕ} {t : TableHeader} {offsets entries : List ℕ} {r : Answer} {k p : ℕ} → r ≡ Answer.Refused k p
-    → r ≡ answerOf (verdict (partitionRules ++ clashRules) (fileOf bytes t))
-    → PartitionsAnswer bytes t (partitionRules ++ clashRules) offsets entries r
+    → r ≡ answerOf (verdict laterRules (fileOf bytes t))
+    → PartitionsAnswer bytes t laterRules offsets entries r
 refusal e told = record { told = told; chain = λ q. absurd (never e q); entries-are = λ q. absurd (never e q) }
 
 returns : tie.Need-returns

@@ -10,7 +10,7 @@ use lib.ListN.{length, take, drop, getD, length-take, length-drop}
 use lib.Dec.{ltb}
 use lib.Seq.{take-take}
 use borrow.Author.Tests.{lt-ltb, le-ltb}
-use Rattle.pdi_spec.specs.{Limits.headWidth, Limits.rowWidth, Limits.bufferNumbers, Limits.numberBytes, Limits.bufferBytes, File.File, File.partitions, File.header, Ranges.Range, Ranges.span, Ranges.body, Verdict.Rule, Verdict.Outcome, Verdict.accepted, Verdict.refused, Verdict.verdict, RuleList.rule1, RuleList.withoutBuffer, RuleList.withRows, RuleList.withHostRows, RuleList.rule14, RuleList.rule15, Answers.answer, Answers.ifAccepted, Answers.head, Answers.headAndRows, Answers.written, Answers.rowsAfter, Answers.cut, Answers.asked, Answers.readBy, Answers.rowsBy, Answers.billBy, Answers.bodyBy, Answers.billed, Answers.billUnder, Answers.emptyPart, Answers.partUnder, Answers.bodyUnder, Host.leBytes, Host.writtenBytes, Host.bytesAfter, Host.hostReadBy, Host.hostRowsBy, Stated.byRows, Stated.inSpans, Loading.Memory, Loading.Feed, Loading.Whole, Loading.Loaded, Supported.Supported, Rules.notFrom}
+use Rattle.pdi_spec.specs.{Limits.headWidth, Limits.rowWidth, Limits.bufferNumbers, Limits.numberBytes, Limits.bufferBytes, File.File, File.partitions, File.header, Ranges.Range, Ranges.span, Ranges.body, Verdict.Rule, Verdict.Outcome, Verdict.accepted, Verdict.refused, Verdict.verdict, RuleList.rule1, RuleList.withoutBuffer, RuleList.withRows, RuleList.withHostRows, RuleList.rule14, RuleList.rule15, Answers.answer, Answers.ifAccepted, Answers.ifPartition, Answers.head, Answers.headAndRows, Answers.written, Answers.rowsAfter, Answers.cut, Answers.asked, Answers.readBy, Answers.rowsBy, Answers.billBy, Answers.bodyBy, Answers.billed, Answers.billUnder, Answers.emptyPart, Answers.partUnder, Answers.bodyUnder, Host.leBytes, Host.writtenBytes, Host.bytesAfter, Host.hostReadBy, Host.hostRowsBy, Stated.byRows, Stated.inSpans, Loading.Memory, Loading.Feed, Loading.Whole, Loading.Loaded, Supported.Supported, Rules.notFrom}
 use Rattle.pdi_spec.specs.Laws.{Lists.flatMap-length, Refusals.answer-refused, Refusals.with-room, Refusals.few-partitions, Refusals.zero-accepted, Refusals.zero-accepts, Refusals.buffer-accepts, Rows.written-length, Rows.after-accepted, Rows.after-refused, Rows.length-after, Rows.rows-state, Stated.accepted-loads, Stated.accepted-bill, Tests.or-inl, Tests.or-inr, Verdict.accepted-kept, Kept.lengths-stated, Kept.span-stated}
 
 -- ---- bill
@@ -23,12 +23,38 @@ pub bill-refused : (rs : List Rule) (f : File) (k p : ℕ) → verdict rs f ≡ 
 unfolding billUnder ifAccepted
 bill-refused rs f k p e = rw e refl
 
+-- ---- of a partition
+
+module _ {A : Type 0} (rs : List Rule) (f : File) (p : ℕ) (yea nay : A) where
+  -- refused
+  pub refused-gives : {k q : ℕ} → verdict rs f ≡ refused k q → ifPartition rs f p yea nay ≡ nay
+  unfolding ifPartition ifAccepted
+  refused-gives e = rw e refl
+
+  -- of a p that isn't 1 to N
+  pub other-gives : (p < 1) ⊎ (partitions f < p) → ifPartition rs f p yea nay ≡ nay
+  unfolding ifPartition ifAccepted notFrom
+  other-gives h = go (verdict rs f)
+    where
+      outside : notFrom 1 (partitions f) p ≡ true
+      outside =
+          ⊎-elim (λ l. or-inl (ltb p 1) _ (lt-ltb p 1 l)) (λ l. or-inr (ltb p 1) (ltb (partitions f) p) (lt-ltb (partitions f) p l)) h
+
+      go : (o : Outcome) → ifAccepted o (cond (notFrom 1 (partitions f) p) nay yea) nay ≡ nay
+      go accepted = rw outside refl
+      go (refused k q) = refl
+
+  -- where a list accepts
+  pub accepted-gives : verdict rs f ≡ accepted → 1 ≤ p → p ≤ partitions f → ifPartition rs f p yea nay ≡ yea
+  unfolding ifPartition ifAccepted notFrom
+  accepted-gives e low high = rw (e, le-ltb p 1 low, le-ltb (partitions f) p high) refl
+
 -- ---- body
 
 -- refused, there is no part
 pub part-refused : (rs : List Rule) (f : File) (k p : ℕ) → verdict rs f ≡ refused k p → (q : ℕ) → partUnder rs f q ≡ emptyPart
-unfolding partUnder ifAccepted
-part-refused rs f k p e q = rw e refl
+unfolding partUnder
+part-refused rs f k p e q = refused-gives rs f q (body f q) emptyPart e
 
 pub body-refused : (rs : List Rule) (f : File) (k p : ℕ) → verdict rs f ≡ refused k p → (q : ℕ) → bodyUnder rs f q ≡ []
 unfolding bodyUnder cut
@@ -36,16 +62,8 @@ body-refused rs f k p e q = ap (λ (r : Range). cut r (f .bytes)) (part-refused 
 
 -- of a p that isn't 1 to N there is none
 pub part-none : (rs : List Rule) (f : File) (p : ℕ) → (p < 1) ⊎ (partitions f < p) → partUnder rs f p ≡ emptyPart
-unfolding partUnder ifAccepted notFrom
-part-none rs f p h = go (verdict rs f)
-  where
-    outside : notFrom 1 (partitions f) p ≡ true
-    outside =
-        ⊎-elim (λ l. or-inl (ltb p 1) _ (lt-ltb p 1 l)) (λ l. or-inr (ltb p 1) (ltb (partitions f) p) (lt-ltb (partitions f) p l)) h
-
-    go : (o : Outcome) → ifAccepted o (cond (notFrom 1 (partitions f) p) emptyPart (body f p)) emptyPart ≡ emptyPart
-    go accepted = rw outside refl
-    go (refused k q) = refl
+unfolding partUnder
+part-none rs f p = other-gives rs f p (body f p) emptyPart
 
 pub body-none : (rs : List Rule) (f : File) (p : ℕ) → (p < 1) ⊎ (partitions f < p) → bodyUnder rs f p ≡ []
 unfolding bodyUnder cut
@@ -54,8 +72,8 @@ body-none rs f p h = ap (λ (r : Range). cut r (f .bytes)) (part-none rs f p h)
 -- where a list accepts, it is the body of partition p
 pub part-accepted : (rs : List Rule) (f : File) → verdict rs f ≡ accepted → (p : ℕ) → 1 ≤ p → p ≤ partitions f
     → partUnder rs f p ≡ body f p
-unfolding partUnder ifAccepted notFrom
-part-accepted rs f e p low high = rw (e, le-ltb p 1 low, le-ltb (partitions f) p high) refl
+unfolding partUnder
+part-accepted rs f e p = accepted-gives rs f p (body f p) emptyPart e
 
 pub body-accepted : (rs : List Rule) (f : File) → verdict rs f ≡ accepted → (p : ℕ) → 1 ≤ p → p ≤ partitions f
     → bodyUnder rs f p ≡ cut (body f p) (f .bytes)

@@ -1,11 +1,11 @@
 -- Laws of counts: where no two ranges overlap and none is past a limit, the numbers below the limit that lie in one are as many as the
 -- ranges' sizes together; and they are never more than the limit. Assumes nothing.
-use Prim.Native.Nat.{ℕ, zero, suc, _+_, _-_, _≤_, min}
+use Prim.Native.Nat.{ℕ, zero, suc, _+_, _-_, _≤_, _<_, min}
 use native.Mathlib.Omega.{arith}
 use native.Mathlib.Nat.{add-zero}
 use mathlib.Core.Bool.{Bool, true, false, cond, _&&_, _||_}
 use mathlib.Core.List.{List, [], _∷_, map, List·Mem, mem-cons-self, mem-cons-of-mem}
-use mathlib.Core.Path.{_≡_, refl}
+use mathlib.Core.Path.{_≡_, refl, ap}
 use lib.Dec.{leb, ltb}
 use borrow.Author.Tests.{ltb-true, ltb-false, leb-true, leb-false}
 use Rattle.pdi_spec.specs.{Lists.numbers, Lists.sumOf, Lists.anyOf, Lists.anyPair, Lists.countOf, Ranges.Range, Ranges.endOf, Ranges.within, Ranges.overlap, Ranges.past}
@@ -65,10 +65,24 @@ below-count r a (suc n) =
     let same : a + suc n ≡ suc a + n = omega arith in
     rw same (omega (arith, below-next r a, below-count r (suc a) n))
 
--- where the range is not past the limit, the numbers below the limit hold all of it
+-- where the range lies among them, they hold all of it
+pub range-count : (r : Range) (a n : ℕ) → a ≤ r .start → endOf r ≤ a + n → countOf (within r) (numbers a n) ≡ r .size
+unfolding endOf below
+range-count r a n low high = omega (arith, below-count r a n)
+
+-- so do the numbers below a limit that it is not past
 within-size : (r : Range) (limit : ℕ) → past limit r ≡ false → countOf (within r) (numbers 0 limit) ≡ r .size
-unfolding past endOf below
-within-size r limit e = omega (arith, below-count r 0 limit, ltb-false)
+unfolding past
+within-size r limit e = range-count r 0 limit (omega arith) (omega (arith, ltb-false))
+
+-- tests that agree on numbers that follow one another count the same
+pub count-same : (t u : ℕ → Bool) (a n : ℕ) → ((x : ℕ) → a ≤ x → x < a + n → t x ≡ u x)
+    → countOf t (numbers a n) ≡ countOf u (numbers a n)
+unfolding countOf numbers
+count-same t u a zero h = refl
+count-same t u a (suc n) h =
+    let first = ap {B = ℕ} (λ (b : Bool). cond b 1 0) (h a (omega arith) (omega arith)) in
+    omega (arith, first, count-same t u (suc a) n (λ x low high. h x (omega arith) (omega arith)))
 
 -- ---- many ranges
 

@@ -4,7 +4,7 @@ use Prim.Native.Nat.{ℕ, _+_, _≤_, _<_}
 use native.Mathlib.Omega.{arith}
 use mathlib.Core.List.{List, [], _∷_, _++_, map, List·Mem, mem-map-of-mem}
 use mathlib.Core.Path.{_≡_, refl, _∙_, ap}
-use Rattle.pdi_spec.specs.{Limits.mostPartitions, Limits.lastRule, Lists.numbers, Lists.firstOf, File.File, Verdict.Rule, Verdict.once, Verdict.each, Verdict.eachAndTable, Verdict.refused, Verdict.verdict, RuleList.rule1, RuleList.rule2, RuleList.rule18, RuleList.rule19, RuleList.tableRules, RuleList.headerRules, RuleList.partitionRules, RuleList.readingRules, RuleList.clashRules, RuleList.plainRules, RuleList.withoutBuffer, RuleList.withBuffer, Supported.WellTried, Supported.Supported}
+use Rattle.pdi_spec.specs.{Limits.mostPartitions, Limits.lastRule, Lists.numbers, Lists.firstOf, File.File, Verdict.Rule, Verdict.once, Verdict.each, Verdict.eachAndTable, Verdict.refused, Verdict.verdict, RuleList.rule1, RuleList.rule2, RuleList.rule18, RuleList.rule19, RuleList.tableRules, RuleList.headerRules, RuleList.partitionRules, RuleList.readingRules, RuleList.clashRules, RuleList.laterRules, RuleList.plainRules, RuleList.withoutBuffer, RuleList.withBuffer, Supported.WellTried, Supported.Supported}
 use Rattle.pdi_spec.specs.Laws.{Tests.mem-numbers, Lists.Every, Kept.by-number, Verdict.refusal-number, Refusals.well-once, Refusals.well-each, Refusals.well-with-table, Refusals.all-well, Refusals.with-room, Refusals.refusal-p}
 
 -- ---- numbers
@@ -13,7 +13,7 @@ abbrev numbersOf : List Rule → List ℕ
 numbersOf rs = map (λ (r : Rule). r .number) rs
 
 pub plain-numbers : numbersOf plainRules ≡ numbers 3 17
-unfolding plainRules readingRules tableRules partitionRules headerRules clashRules once each eachAndTable numbers
+unfolding plainRules tableRules laterRules partitionRules headerRules clashRules once each eachAndTable numbers
 plain-numbers = refl
 
 pub buffer-numbers : (least have : ℕ) → numbersOf (withBuffer least have plainRules) ≡ numbers 1 lastRule
@@ -29,11 +29,11 @@ bill-numbers = ap (λ (ns : List ℕ). 1 ∷ ns) plain-numbers
 -- it is rules 3 to 17, and then 18 and 19
 pub buffer-split : (least have : ℕ)
     → withBuffer least have plainRules ≡ (rule1 ∷ rule2 least have ∷ readingRules) ++ (rule18 ∷ rule19 ∷ [])
-unfolding withBuffer plainRules clashRules
+unfolding withBuffer plainRules laterRules readingRules tableRules partitionRules headerRules clashRules
 buffer-split least have = refl
 
 plain-tried : Every WellTried plainRules
-unfolding plainRules readingRules tableRules partitionRules headerRules clashRules
+unfolding plainRules tableRules laterRules partitionRules headerRules clashRules
 plain-tried = search (well-once, well-each, well-with-table)
 
 -- each has a number from 3 to 19
@@ -41,10 +41,10 @@ numbered : (r : Rule) → List·Mem r plainRules → (3 ≤ r .number) × (r .nu
 numbered r m = mem-numbers 3 17 (rw plain-numbers at (mem-map-of-mem (λ (s : Rule). s .number) m))
 
 pub plain : Supported plainRules
-unfolding plainRules readingRules tableRules partitionRules headerRules clashRules firstOf once each eachAndTable
+unfolding plainRules tableRules laterRules partitionRules headerRules clashRules firstOf once each eachAndTable
 plain =
     record {
-      later = partitionRules ++ clashRules;
+      later = laterRules;
       table-first = refl;
       lengths = by-number 14 plainRules refl;
       spans = by-number 15 plainRules refl;

@@ -8,9 +8,9 @@ use mathlib.Core.HLevel.{×-prop}
 use mathlib.Core.Logic.{_⊎_, inl, inr, ⊎-elim, ∥∥₁-elim, ∥∥₁-map}
 use native.Mathlib.Bridge.{le-prop}
 use mathlib.Core.Path.{_≡_, refl, sym, _∙_, ap}
-use lib.Dec.{leb, ltb}
+use lib.Dec.{leb, ltb, eqb}
 use lib.ListN.{getD}
-use borrow.Author.Tests.{ltb-true, leb-true, lt-ltb, le-leb}
+use borrow.Author.Tests.{ltb-true, leb-true, eqb-true, lt-ltb, le-leb, eq-eqb}
 use Rattle.pdi_spec.specs.{Lists.numbers, Lists.anyTrue, Lists.anyOf, Lists.anyPair, Ranges.Range, Ranges.endOf, Ranges.within, Ranges.overlap}
 
 -- ---- Boolean tests
@@ -61,6 +61,13 @@ is-not-true false h = refl
 
 pub never-both : {a : Bool} → a ≡ true → a ≡ false → ⊥
 never-both p q = true≢false (sym p ∙ q)
+
+-- a test of difference that fails
+pub equal-told : (a b : ℕ) → not (eqb a b) ≡ false → a ≡ b
+equal-told a b e = eqb-true a b (not-is-false (eqb a b) e)
+
+pub equal-tells : (a b : ℕ) → a ≡ b → not (eqb a b) ≡ false
+equal-tells a b e = ap not (eq-eqb a b e)
 
 -- a test is true or false
 pub either : (a : Bool) → (a ≡ true) ⊎ (a ≡ false)

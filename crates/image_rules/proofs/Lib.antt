@@ -1,0 +1,3 @@
+-- Laws for the proofs here. Assumes nothing.
+pub mod ImageRuns
+pub mod Owned
