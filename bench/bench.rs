@@ -1,13 +1,14 @@
 //! What a call costs: makes images, and has the archive and a plain Rust reader answer on them, once to be counted or often to be timed.
 //!
-//! `shape.rs` has the images, `timing.rs` the times. The plain reader is the second reader of tests/outside. Linked against the archive:
-//! rustc --edition 2021 -C opt-level=3 -L DIR -l static=pdi_host -o OUT bench.rs
+//! `shape.rs` has the images, `calls.rs` the calls, `timing.rs` the times. The plain reader is the second reader of tests/outside. Linked
+//! against the archive: rustc --edition 2021 -C opt-level=3 -L DIR -l static=pdi_host -o OUT bench.rs
 //! `bench/run` has callgrind count. Assumes 64-bit Linux, and that nobody writes an image file while it is mapped.
 
 // The outside test uses more of these modules than the benchmark does.
 #[allow(dead_code)]
 #[path = "../tests/outside/archive.rs"]
 mod archive;
+mod calls;
 #[allow(dead_code)]
 #[path = "../tests/outside/fields.rs"]
 mod fields;
@@ -23,11 +24,10 @@ mod timing;
 use std::error::Error;
 use std::ffi::{c_int, c_void};
 use std::fs::File;
-use std::hint::black_box;
 use std::os::fd::AsRawFd;
 use std::process::ExitCode;
 
-use archive::{Archive, Subject};
+use calls::{Question, ARCHIVE, RUST};
 use limits::ROWS_BYTES;
 use shape::Shape;
 use timing::{processes, time};
@@ -41,9 +41,10 @@ const HELP: &str = "usage: bench make N BLOCKS KIND LENGTH FILE LAYOUT
   KIND       full or partial
   LENGTH     of the image in bytes, a multiple of 4; 0 for the shortest
   LAYOUT     near, far, long: all parts in the order of the chain, and the last span after the others, at the image's end, or after the
-             others and over all the rest; reversed: the last partition's parts lie first; mixed: in no order
+             others and over all the rest; reversed: the last partition's parts lie first; mixed: in no order; images: as near, and each
+             partition has an image of its own, while else one image owns them all
   WHO        archive or rust: who is called once, in a function of the name WHO_QUESTION
-  QUESTION   read or bill
+  QUESTION   read, bill, or owner, which is asked of the last partition
 make prints the table place. time prints, for each question, the nanoseconds of a call of the archive and of the Rust reader, and the
 ratio; processes prints the microseconds of each command. All of these are medians.";
 
@@ -61,56 +62,6 @@ impl Rows {
 
 type Outcome = Result<(), Box<dyn Error>>;
 
-#[derive(Clone, Copy)]
-enum Question {
-    Read,
-    Bill,
-}
-
-struct Reader {
-    read: fn(&[u8], u64, &mut [u8]) -> u64,
-    bill: fn(&[u8], u64) -> u64,
-}
-
-const ARCHIVE: Reader = Reader { read: archive_read, bill: archive_bill };
-const RUST: Reader = Reader { read: rust_read, bill: rust_bill };
-
-// The four counted functions. They keep their names and are never inlined, so that callgrind can be told to count within one of them; the
-// black box keeps a call from becoming a jump, which would leave the function before the work begins.
-
-#[no_mangle]
-#[inline(never)]
-fn archive_read(image: &[u8], place: u64, rows: &mut [u8]) -> u64 {
-    black_box(Archive.read(image, place, rows))
-}
-
-#[no_mangle]
-#[inline(never)]
-fn archive_bill(image: &[u8], place: u64) -> u64 {
-    black_box(Archive.bill(image, place))
-}
-
-#[no_mangle]
-#[inline(never)]
-fn rust_read(image: &[u8], place: u64, rows: &mut [u8]) -> u64 {
-    black_box(reader::read(image, place, rows))
-}
-
-#[no_mangle]
-#[inline(never)]
-fn rust_bill(image: &[u8], place: u64) -> u64 {
-    black_box(reader::bill(image, place))
-}
-
-impl Reader {
-    fn ask(&self, question: Question, image: &[u8], place: u64, rows: &mut [u8]) -> u64 {
-        match question {
-            Question::Read => (self.read)(image, place, rows),
-            Question::Bill => (self.bill)(image, place),
-        }
-    }
-}
-
 /// One call to be counted. The other reader is asked too: a count means something only if both accept and write the same rows.
 fn count(who: &str, question: Question, image: &[u8], place: u64) -> Outcome {
     let (counted, other) = match who {
@@ -125,7 +76,7 @@ fn count(who: &str, question: Question, image: &[u8], place: u64) -> Outcome {
         return Err("the two readers differ".into());
     }
     match (question, answer) {
-        (Question::Read, 0) | (Question::Bill, 1..) => Ok(()),
+        (Question::Read, 0) | (Question::Bill | Question::Owner, 1..) => Ok(()),
         _ => Err("the image is refused".into()),
     }
 }
@@ -149,18 +100,10 @@ fn map(path: &str) -> Result<&'static [u8], Box<dyn Error>> {
     Ok(unsafe { std::slice::from_raw_parts(mapped.cast(), length) })
 }
 
-fn question(name: &str) -> Result<Question, Box<dyn Error>> {
-    match name {
-        "read" => Ok(Question::Read),
-        "bill" => Ok(Question::Bill),
-        _ => Err("QUESTION is read or bill".into()),
-    }
-}
-
 fn run(arguments: &[&str]) -> Outcome {
     match arguments {
         &["make", n, blocks, kind, length, file, layout] => Shape::parse(n, blocks, kind, length, layout)?.make(file),
-        &["count", who, name, file, place] => count(who, question(name)?, map(file)?, place.parse()?),
+        &["count", who, name, file, place] => count(who, Question::parse(name)?, map(file)?, place.parse()?),
         &["time", file, place] => time(map(file)?, place.parse()?),
         ["processes", commands @ ..] => processes(&commands.split(|&word| word == "--").collect::<Vec<_>>()),
         _ => Err(HELP.into()),

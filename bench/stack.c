@@ -50,6 +50,12 @@ static void call_body_length(void)
     answer = pdi_body_length(image, length, place, 1);
 }
 
+static void call_owner(void)
+{
+    frame = __builtin_frame_address(0);
+    answer = pdi_owner(image, length, place, 1);
+}
+
 static size_t used_over(uint8_t byte, void (*call)(void))
 {
     static ucontext_t here, there;
@@ -116,5 +122,6 @@ int main(int argc, char **argv)
     measure("pdi_read", call_read, 1);
     measure("pdi_bill", call_bill, 0);
     measure("pdi_body_length", call_body_length, 0);
+    measure("pdi_owner", call_owner, 0);
     return fflush(stdout) == 0 ? 0 : 2;
 }

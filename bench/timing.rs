@@ -5,7 +5,8 @@ use std::hint::black_box;
 use std::process::{Command, Stdio};
 use std::time::{Duration, Instant};
 
-use crate::{count, Outcome, Question, Reader, Rows, ARCHIVE, RUST};
+use crate::calls::{Question, Reader, ARCHIVE, RUST};
+use crate::{count, Outcome, Rows};
 
 /// How often the readers, or the processes, take turns.
 const READER_TURNS: usize = 101;
@@ -16,7 +17,7 @@ const TURN: Duration = Duration::from_micros(500);
 /// Nanoseconds of a call of each reader, and the ratio. The readers take turns in one run, and a ratio is of two neighbouring turns, so
 /// that a change of the machine's pace reaches both.
 pub fn time(image: &[u8], place: u64) -> Outcome {
-    for (name, question) in [("read", Question::Read), ("bill", Question::Bill)] {
+    for (name, question) in [("read", Question::Read), ("bill", Question::Bill), ("owner", Question::Owner)] {
         count("archive", question, image, place)?;
         let turn = |reader: &Reader, calls| nanoseconds_a_call(reader, question, image, place, calls);
         let calls = enough_calls(|calls| turn(&ARCHIVE, calls));

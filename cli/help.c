@@ -49,7 +49,8 @@ void print_help(enum command command)
     case COMMAND_LIST:
         printf("Usage: %s\nPrints the kind, the images, the partitions and the billed bytes, then a row for each partition.\n", usage_list);
         printf("Addresses, keys and attributes are hexadecimal, lengths are bytes. - stands for a load address or hash\n"
-               "entry that is not there.\n\n%s%s%s", place_option, form_options, statuses);
+               "entry that is not there. The owner image is the image that the partition belongs to, counted from 1 in\n"
+               "the table's order.\n\n%s%s%s", place_option, form_options, statuses);
         break;
     case COMMAND_BILL:
         printf("Usage: %s\nPrints the billed bytes alone on a line.\n\n%s%s%s", usage_bill, place_option, form_options, statuses);

@@ -8,20 +8,20 @@
 
 #include "rules.h"
 
-static bool is_hexadecimal(enum pdi_row field)
+static bool is_hexadecimal(unsigned column)
 {
-    return field == PDI_LOAD_ADDR || field == PDI_EXECUTION_ADDR || field == PDI_KEY || field == PDI_ATTRIBUTES;
+    return column == PDI_LOAD_ADDR || column == PDI_EXECUTION_ADDR || column == PDI_KEY || column == PDI_ATTRIBUTES;
 }
 
 static void print_row(const struct reading *reading, unsigned p)
 {
     printf("{\"p\": %u", p);
-    for (unsigned field = 0; field < PDI_ROW; field++) {
-        uint64_t value = pdi_row_field(reading->rows, p, (enum pdi_row)field);
-        if (is_hexadecimal((enum pdi_row)field))
-            printf(", \"%s\": \"0x%" PRIx64 "\"", columns[field].name, value);
+    for (unsigned column = 0; column < COLUMNS; column++) {
+        uint64_t value = stated_of(reading, p, column);
+        if (is_hexadecimal(column))
+            printf(", \"%s\": \"0x%" PRIx64 "\"", columns[column].name, value);
         else
-            printf(", \"%s\": %" PRIu64, columns[field].name, value);
+            printf(", \"%s\": %" PRIu64, columns[column].name, value);
     }
     putchar('}');
 }

@@ -1,4 +1,4 @@
-/* The listing as a table for people and as TSV. Assumes rows that an acceptance has filled. */
+/* The listing as a table for people and as TSV. Assumes rows that an acceptance has filled, and the owners beside them. */
 #include "listing.h"
 
 #include <inttypes.h>
@@ -6,7 +6,7 @@
 #include <stdio.h>
 #include <string.h>
 
-const struct column columns[PDI_ROW] = {
+const struct column columns[COLUMNS] = {
     [PDI_SPAN_START] = {"span start", "span_start"},
     [PDI_SPAN_LENGTH] = {"span length", "span_length"},
     [PDI_LOADED] = {"loaded", "loaded_bytes"},
@@ -15,6 +15,7 @@ const struct column columns[PDI_ROW] = {
     [PDI_KEY] = {"key", "key"},
     [PDI_HASH_ENTRY] = {"hash entry", "hash_entry"},
     [PDI_ATTRIBUTES] = {"attributes", "attributes"},
+    [OWNER_IMAGE] = {"owner image", "owner_image"},
 };
 
 enum { CELL = 24 };              /* room for any title and for 2^64 - 1 */
@@ -22,7 +23,7 @@ enum { CELL = 24 };              /* room for any title and for 2^64 - 1 */
 /* The whole table as text, titles first, so that each column can be as wide as its widest cell. Column 0 is p. */
 struct table {
     unsigned lines;
-    char cells[1 + PDI_MOST_PARTITIONS][1 + PDI_ROW][CELL];
+    char cells[1 + PDI_MOST_PARTITIONS][1 + COLUMNS][CELL];
 };
 
 unsigned partitions_of(const struct reading *reading)
@@ -35,6 +36,11 @@ const char *kind_of(const struct reading *reading)
     return pdi_row_number(reading->rows, PDI_KIND) == 1 ? "full" : "partial";
 }
 
+uint64_t stated_of(const struct reading *reading, unsigned p, unsigned column)
+{
+    return column == OWNER_IMAGE ? reading->owners[p - 1] : pdi_row_field(reading->rows, p, (enum pdi_row)column);
+}
+
 /* By the partition's type, attribute bits 26:24. */
 static bool has_load_address(uint64_t attributes)
 {
@@ -42,16 +48,16 @@ static bool has_load_address(uint64_t attributes)
     return type == 1 || type == 4 || type == 5;
 }
 
-static void fill_cell(char *cell, const struct reading *reading, unsigned p, enum pdi_row field)
+static void fill_cell(char *cell, const struct reading *reading, unsigned p, unsigned column)
 {
-    uint64_t value = pdi_row_field(reading->rows, p, field);
-    bool absent = (field == PDI_HASH_ENTRY && value == 0)
-        || (field == PDI_LOAD_ADDR && !has_load_address(pdi_row_field(reading->rows, p, PDI_ATTRIBUTES)));
+    uint64_t value = stated_of(reading, p, column);
+    bool absent = (column == PDI_HASH_ENTRY && value == 0)
+        || (column == PDI_LOAD_ADDR && !has_load_address(stated_of(reading, p, PDI_ATTRIBUTES)));
     if (absent)
         snprintf(cell, CELL, "-");
-    else if (field == PDI_SPAN_LENGTH || field == PDI_LOADED)
+    else if (column == PDI_SPAN_LENGTH || column == PDI_LOADED || column == OWNER_IMAGE)
         snprintf(cell, CELL, "%" PRIu64, value);
-    else if (field == PDI_KEY || field == PDI_ATTRIBUTES)
+    else if (column == PDI_KEY || column == PDI_ATTRIBUTES)
         snprintf(cell, CELL, "0x%08" PRIx64, value);
     else
         snprintf(cell, CELL, "0x%" PRIx64, value);
@@ -61,12 +67,12 @@ static void fill_table(struct table *table, const struct reading *reading)
 {
     table->lines = 1 + partitions_of(reading);
     snprintf(table->cells[0][0], CELL, "p");
-    for (unsigned field = 0; field < PDI_ROW; field++)
-        snprintf(table->cells[0][1 + field], CELL, "%s", columns[field].title);
+    for (unsigned column = 0; column < COLUMNS; column++)
+        snprintf(table->cells[0][1 + column], CELL, "%s", columns[column].title);
     for (unsigned p = 1; p < table->lines; p++) {
         snprintf(table->cells[p][0], CELL, "%u", p);
-        for (unsigned field = 0; field < PDI_ROW; field++)
-            fill_cell(table->cells[p][1 + field], reading, p, (enum pdi_row)field);
+        for (unsigned column = 0; column < COLUMNS; column++)
+            fill_cell(table->cells[p][1 + column], reading, p, column);
     }
 }
 
@@ -88,20 +94,20 @@ void print_table(const struct reading *reading)
     struct table table;
     fill_table(&table, reading);
     for (unsigned line = 0; line < table.lines; line++)
-        for (unsigned column = 0; column <= PDI_ROW; column++)
-            printf("%*s%s", width_of(&table, column), table.cells[line][column], column < PDI_ROW ? "  " : "\n");
+        for (unsigned column = 0; column <= COLUMNS; column++)
+            printf("%*s%s", width_of(&table, column), table.cells[line][column], column < COLUMNS ? "  " : "\n");
 }
 
 void print_tsv(const struct reading *reading)
 {
     putchar('p');
-    for (unsigned field = 0; field < PDI_ROW; field++)
-        printf("\t%s", columns[field].name);
+    for (unsigned column = 0; column < COLUMNS; column++)
+        printf("\t%s", columns[column].name);
     putchar('\n');
     for (unsigned p = 1; p <= partitions_of(reading); p++) {
         printf("%u", p);
-        for (unsigned field = 0; field < PDI_ROW; field++)
-            printf("\t%" PRIu64, pdi_row_field(reading->rows, p, (enum pdi_row)field));
+        for (unsigned column = 0; column < COLUMNS; column++)
+            printf("\t%" PRIu64, stated_of(reading, p, column));
         putchar('\n');
     }
 }

@@ -1,5 +1,5 @@
-/* foliobriar: the commands. What an image states is pdi_read's answer, and what it costs pdi_bill's; nothing is reckoned here. Assumes that
- * FOLIOBRIAR_VERSION is defined by the build, from cli/VERSION. */
+/* foliobriar: the commands. What an image states is pdi_read's answer, what it costs pdi_bill's, and whose a partition is pdi_owner's;
+ * nothing is reckoned here. Assumes that FOLIOBRIAR_VERSION is defined by the build, from cli/VERSION. */
 #include <inttypes.h>
 #include <signal.h>
 #include <stdbool.h>
@@ -23,8 +23,23 @@ static enum status trouble_with_changed(const struct image *image)
     return trouble(image->name, "was changed while it was being read");
 }
 
-static enum status list(const struct request *request, const struct reading *reading)
+/* Asks for the owner of each partition. False where one is no image of the table, as pdi_read has just counted them. */
+static bool ask_owners(const struct image *image, struct reading *reading)
 {
+    uint64_t images = pdi_row_number(reading->rows, PDI_IMAGES);
+    for (unsigned p = 1; p <= partitions_of(reading); p++) {
+        uint64_t owner = pdi_owner(image->bytes, image->length, reading->place, p);
+        if (owner < 1 || owner > images)
+            return false;
+        reading->owners[p - 1] = owner;
+    }
+    return true;
+}
+
+static enum status list(const struct request *request, const struct image *image, struct reading *reading)
+{
+    if (!ask_owners(image, reading))
+        return trouble_with_changed(image);
     switch (request->form) {
     case FORM_PEOPLE:
         print_table(reading);
@@ -127,7 +142,7 @@ static enum status answer_about(const struct request *request, const struct imag
     if (status != STATUS_ACCEPTED)
         return status;
     if (request->command == COMMAND_LIST)
-        return list(request, &reading);
+        return list(request, image, &reading);
     if (request->command == COMMAND_BILL)
         return bill(request, image, &reading);
     return body(request, image, &reading);

@@ -10,7 +10,7 @@
 
 static const struct rule rules[PDI_LAST_RULE + 1] = {
     [PDI_ACCEPTED] = {
-     "The image is accepted: it breaks no rule, and its rows, its bill and its bodies are those that its headers state",
+     "The image is accepted: it breaks no rule, and its rows, its bill, its bodies and its owners are those that its headers state",
      "the image", "Nothing"},
     [PDI_IMAGE_TOO_LONG] = {
      "The image is longer than 1 GiB (1,073,741,824 bytes)",
@@ -75,6 +75,10 @@ static const struct rule rules[PDI_LAST_RULE + 1] = {
     [PDI_LOAD_CLASH] = {
      "The load range of partition p meets that of an earlier one",
      "header p", "Which of the two is to lie at those addresses"},
+    [PDI_IMAGE_HEADERS] = {
+     "An image header is wrong: its checksum is not the sum of its 15 words, its number of partitions is 0, these numbers do not "
+     "add up to the table's, or the partition header that it names is not the first of its run of the chain",
+     "image headers", "A fresh copy; which partitions each image is to have"},
 };
 
 /* An archive or a header newer than these words could have more numbers. */

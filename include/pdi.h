@@ -35,10 +35,11 @@ enum pdi_refusal {
     PDI_PARTITION_LENGTHS = 14,  /* of the data, of the key or of the signature */
     PDI_PARTITION_SPAN = 15,     /* the data, or the 48 bytes of their checksum, pass the image */
     PDI_LOAD_ADDRESS = 16,       /* the load range passes 2^64, or an address where none may be */
-    PDI_HASH_BLOCK = 17,         /* its length, its place, or no single entry with its owner's index */
+    PDI_HASH_BLOCK = 17,         /* its length, its place, or no single entry with its own index */
     PDI_STORED_CLASH = 18,       /* two stored parts share bytes that must not */
     PDI_LOAD_CLASH = 19,         /* two partitions are loaded to one address */
-    PDI_LAST_RULE = PDI_LOAD_CLASH /* the highest number */
+    PDI_IMAGE_HEADERS = 20,      /* a checksum, a count, or where an image's run of partitions starts */
+    PDI_LAST_RULE = PDI_IMAGE_HEADERS /* the highest number */
 };
 
 /* The row buffer holds a head and then, in chain order, a row for each partition. Here are the numbers of the head, */
@@ -65,7 +66,8 @@ enum pdi_row {
 
 /* The limits. What follows from others is reckoned from them, here and wherever this header is used. */
 #define PDI_LONGEST_IMAGE UINT64_C(1073741824)     /* bytes of the longest image that isn't refused for its length */
-#define PDI_MOST_PARTITIONS 32                     /* of an image */
+#define PDI_MOST_IMAGES 32                         /* of a table */
+#define PDI_MOST_PARTITIONS 32                     /* of a table, be they one image's or several images' */
 #define PDI_ROWS_NUMBERS (PDI_HEAD + PDI_ROW * PDI_MOST_PARTITIONS)  /* of a row buffer that is long enough for any image */
 #define PDI_ROWS_BYTES (8u * PDI_ROWS_NUMBERS)     /* the same in bytes, 8 to a number */
 
@@ -80,6 +82,10 @@ uint64_t pdi_bill(const uint8_t *image, size_t image_len, uint64_t place);
 /* The length in bytes of the stored body of partition p, counted from 1. It starts where the partition's span does. 0 if the image is
  * refused or has no partition p; a partition of an accepted image is never empty. */
 uint64_t pdi_body_length(const uint8_t *image, size_t image_len, uint64_t place, uint64_t p);
+
+/* The owner image of partition p, both counted from 1: which of the table's images, in its order, has p in its run of the chain. It is at
+ * most the head's PDI_IMAGES. 0 if the image is refused or has no partition p. */
+uint64_t pdi_owner(const uint8_t *image, size_t image_len, uint64_t place, uint64_t p);
 
 /* The number of an answer. */
 static inline unsigned pdi_number(uint64_t answer) { return (unsigned)(answer / 64); }

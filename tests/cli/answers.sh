@@ -45,12 +45,12 @@ test_table() {
     call list bench.pdi
     same "the table of the bench image" "\
 partial image: images 1, partitions 1, billed bytes 16
-p  span start  span length  loaded  load address  execution address         key  hash entry  attributes
-1       0x140           16      16      0x100000                0x0  0x00000000           -  0x04000001" "$(cat out)"
+p  span start  span length  loaded  load address  execution address         key  hash entry  attributes  owner image
+1       0x140           16      16      0x100000                0x0  0x00000000           -  0x04000001            1" "$(cat out)"
     call list full.pdi --place 8192
     same "the head of a full image" "full image: images 1, partitions 1, billed bytes 16" "$(head -1 out)"
     call list type_2.pdi
-    same "no load address" "1 0x140 16 16 - 0x0 0x00000000 - 0x02000001" "$(tail -1 out | tr -s ' ')"
+    same "no load address" "1 0x140 16 16 - 0x0 0x00000000 - 0x02000001 1" "$(tail -1 out | tr -s ' ')"
     local kind
     for kind in 1 4 5; do
         call list "loaded_$kind.pdi"
@@ -61,9 +61,9 @@ p  span start  span length  loaded  load address  execution address         key 
         same "type $kind has no load address" - "$(tail -1 out | awk '{print $5}')"
     done
     call list block.pdi
-    same "a hash entry" "1 0x140 16 16 0x100000 0x0 0x00000000 0x150 0x04000001" "$(tail -1 out | tr -s ' ')"
+    same "a hash entry" "1 0x140 16 16 0x100000 0x0 0x00000000 0x150 0x04000001 1" "$(tail -1 out | tr -s ' ')"
     call list packed.pdi
-    same "lengths that differ" "1 0x140 28 12 0x100000 0x0 0x00000000 - 0x04000001" "$(tail -1 out | tr -s ' ')"
+    same "lengths that differ" "1 0x140 28 12 0x100000 0x0 0x00000000 - 0x04000001 1" "$(tail -1 out | tr -s ' ')"
     # What images.py gives the last of as many partitions as may be.
     local p=$PDI_MOST_PARTITIONS row
     call list many.pdi
@@ -71,23 +71,23 @@ p  span start  span length  loaded  load address  execution address         key 
     same "all rows as wide as the titles" 1 "$(tail -n +2 out | awk '{print length}' | sort -u | wc -l)"
     same "each third without a load address" $((p / 3)) "$(tail -n +3 out | awk '$5 == "-"' | wc -l)"
     same "each second without a hash entry" $((p - p / 2)) "$(tail -n +3 out | awk '$8 == "-"' | wc -l)"
-    row=$(printf '%d 0x%x %d %d 0x%x 0x%x 0x00000000 0x%x 0x01000000' "$p" $((192 + 128 * p + 64 * (p / 2) + 2 * p * (p - 1))) $((4 * p)) \
-        $((4 * p)) $((p << (p + 25))) $((p < 32 ? (1 << 2 * p) - 1 : -1)) $((192 + 128 * p + 64 * (p / 2 - 1))))
+    row=$(printf '%d 0x%x %d %d 0x%x 0x%x 0x00000000 0x%x 0x01000000 1' "$p" $((192 + 128 * p + 64 * (p / 2) + 2 * p * (p - 1))) \
+        $((4 * p)) $((4 * p)) $((p << (p + 25))) $((p < 32 ? (1 << 2 * p) - 1 : -1)) $((192 + 128 * p + 64 * (p / 2 - 1))))
     same "the widest row" "$row" "$(tail -1 out | tr -s ' ')"
 }
 
 test_tsv() {
     local header="p${tab}span_start${tab}span_length${tab}loaded_bytes${tab}load_address${tab}execution_address"
-    header+="${tab}key${tab}hash_entry${tab}attributes"
+    header+="${tab}key${tab}hash_entry${tab}attributes${tab}owner_image"
     call list bench.pdi --tsv
     same "tsv of the bench image" "$header
-1${tab}320${tab}16${tab}16${tab}1048576${tab}0${tab}0${tab}0${tab}67108865" "$(cat out)"
+1${tab}320${tab}16${tab}16${tab}1048576${tab}0${tab}0${tab}0${tab}67108865${tab}1" "$(cat out)"
     call list two.pdi --tsv
     same "tsv of two partitions" "$header
-1${tab}320${tab}16${tab}16${tab}1048576${tab}0${tab}0${tab}0${tab}67108865
-2${tab}464${tab}4${tab}4${tab}1048592${tab}0${tab}0${tab}0${tab}67108865" "$(cat out)"
+1${tab}320${tab}16${tab}16${tab}1048576${tab}0${tab}0${tab}0${tab}67108865${tab}1
+2${tab}464${tab}4${tab}4${tab}1048592${tab}0${tab}0${tab}0${tab}67108865${tab}1" "$(cat out)"
     call list type_2.pdi --tsv
-    same "tsv without a load address" "1${tab}320${tab}16${tab}16${tab}18446744073709551615${tab}0${tab}0${tab}0${tab}33554433" \
+    same "tsv without a load address" "1${tab}320${tab}16${tab}16${tab}18446744073709551615${tab}0${tab}0${tab}0${tab}33554433${tab}1" \
         "$(tail -1 out)"
     call bill two.pdi --tsv
     same "tsv of a bill" "billed 20" "$(paste -sd ' ' out)"
@@ -98,7 +98,7 @@ test_json() {
     same "json is one line" 1 "$(wc -l <out)"
     json "json of the bench image" "o == {'accepted': True, 'place': 0, 'kind': 'partial', 'images': 1, 'partitions': 1, 'billed': 16,
         'rows': [{'p': 1, 'span_start': 320, 'span_length': 16, 'loaded_bytes': 16, 'load_address': '0x100000',
-        'execution_address': '0x0', 'key': '0x0', 'hash_entry': 0, 'attributes': '0x4000001'}]}"
+        'execution_address': '0x0', 'key': '0x0', 'hash_entry': 0, 'attributes': '0x4000001', 'owner_image': 1}]}"
     call list full.pdi --place 8192 --json
     json "json of a full image" "o['kind'] == 'full' and o['place'] == 8192 and o['rows'][0]['load_address'] == '0xfffc0000'"
     call list many.pdi --tsv

@@ -1,9 +1,10 @@
 """Writes the input of the program `bench_cases`: every case of document 01's "The bench image", starred or not, cases at the reader's
-edges, and full images, whose boot header is too long to compute in crates/pdi_cases. Its file `stdin` holds what this writes, and its file
-`stdout` what document 01 says of each.
+edges, those of image headers, and full images, whose boot header is too long to compute in crates/pdi_cases. Its file `stdin` holds what
+this writes, and its file `stdout` what documents 01 and 02 say of each. The program takes less than 65,536 bytes.
 
-A case is its name, padded with spaces to 32 bytes; the image's length, the numbers in the row buffer and the p whose body is asked for, 4
-bytes each; the table place, 8 bytes; all little-endian; and the image. The limits are those of pdi.h, from the environment (limits.sh).
+A case is its name, padded with spaces to 32 bytes; the image's length, the numbers in the row buffer and the p whose body and owner are
+asked for, 4 bytes each; the table place, 8 bytes; all little-endian; and the image. The limits are those of pdi.h, from the environment
+(limits.sh).
 """
 
 import os
@@ -11,9 +12,10 @@ import struct
 import sys
 
 sys.dont_write_bytecode = True  # nothing is left beside the sources
-from bench_image import HEADER, MOST, TABLE, bench, edited, two, with_block
+from bench_image import HEADER, IMAGE_HEADER, MOST, TABLE, bench, broken, edited, two, with_block
 from headers import put, seal, seal_boot_header
 from images import full
+from owned_image import owned
 
 ENOUGH = int(os.environ["PDI_ROWS_NUMBERS"])
 
@@ -41,6 +43,8 @@ case(f"rows_{ENOUGH - 1}_place_2", bench(), 2, ENOUGH - 1)
 
 word("partitions_0", TABLE + 0xC, 0)
 word(f"partitions_{MOST + 1}", TABLE + 0xC, MOST + 1)
+word("image_header_size_15", TABLE + 0x2C, 0x00200F20)
+word("image_header_size_17", TABLE + 0x2C, 0x00201120)
 word("table_key_5C3CA5A3", TABLE + 0x40, 0x5C3CA5A3)
 
 word("next_48", HEADER + 0xC, 48)
@@ -63,6 +67,12 @@ case("block_index_2", with_block(2))
 case("block_length_52", with_block(1, 52))
 case("second_load_00100010", two(0x00100010), p=2)
 case("second_load_0010000F", two(0x0010000F), p=2)
+
+word("image_partitions_0", IMAGE_HEADER + 4, 0)
+word("image_partitions_2", IMAGE_HEADER + 4, 2)
+word("image_first_header_49", IMAGE_HEADER, 49)
+case("image_checksum_00000030", broken(IMAGE_HEADER + 0x3C))
+case("two_images", owned(1, 1), p=2)
 
 BOOT = 4416  # the size of a boot header: the table's place, right behind it
 

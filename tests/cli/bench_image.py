@@ -6,27 +6,29 @@ A checksum is put right after an edit unless the edit is of the checksum itself.
 
 import os
 
-from headers import put, put_header, put_table, seal
+from headers import put, put_header, put_image_header, put_table, seal, seal_image_header
 
-TABLE, HEADER = 0, 192  # where the bench image has them
+TABLE, IMAGE_HEADER, HEADER = 0, 128, 192  # where the bench image has them
 MOST = int(os.environ["PDI_MOST_PARTITIONS"])
 LONGEST = int(os.environ["PDI_LONGEST_IMAGE"])
 
 
 def bench():
     image = bytearray(336)
-    put_table(image, TABLE, image_headers=128, first=HEADER)
+    put_table(image, TABLE, image_headers=IMAGE_HEADER, first=HEADER)
+    put_image_header(image, IMAGE_HEADER, first=HEADER)
     put_header(image, HEADER, lengths=(4, 4, 4), data=320, load=0x00100000)
     image[320:336] = bytes(range(16))
     return image
 
 
 def edited(edits, image=None):
-    """The bench image with words changed, {offset: word}, and its two checksums put right."""
+    """The bench image with words changed, {offset: word}, and its three checksums put right."""
     image = bench() if image is None else image
     for offset, word in edits.items():
         put(image, offset, word)
     seal(image, TABLE)
+    seal_image_header(image, IMAGE_HEADER)
     seal(image, HEADER)
     return image
 
@@ -45,11 +47,11 @@ def with_block(index, length=64):
 
 
 def two(load):
-    """The bench image with a second partition of one word."""
+    """The bench image with a second partition of one word, of the same image."""
     image = bench() + bytes(132)
     put_header(image, 336, lengths=(1, 1, 1), data=464, load=load)
     image[464:468] = b"tail"
-    return edited({TABLE + 0x0C: 2, HEADER + 0x0C: 84}, image)
+    return edited({TABLE + 0x0C: 2, IMAGE_HEADER + 4: 2, HEADER + 0x0C: 84}, image)
 
 
 def packed():

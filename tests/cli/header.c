@@ -1,4 +1,4 @@
-/* The helper functions of pdi.h, as C and as C++. It calls nothing of the archive. Ends with 0 if all is right. */
+/* The helper functions and the declarations of pdi.h, as C and as C++. It calls nothing of the archive. Ends with 0 if all is right. */
 #include "pdi.h"
 
 #include <stdio.h>
@@ -48,18 +48,34 @@ static void test_rows(void)
     expect(pdi_row_number(rows, 0) == UINT64_MAX, "2^64 - 1");
 }
 
+/* Arguments of the types that the calls take, and the size of what they answer; sizeof calls nothing. */
+static void test_calls(void)
+{
+    const uint8_t *image = NULL;
+    uint8_t *rows = NULL;
+    const size_t length = 0;
+    const uint64_t number = 0;
+    (void)image, (void)rows, (void)length, (void)number;
+    expect(sizeof pdi_read(image, length, number, rows, length) == 8, "what pdi_read answers");
+    expect(sizeof pdi_bill(image, length, number) == 8, "what pdi_bill answers");
+    expect(sizeof pdi_body_length(image, length, number, number) == 8, "what pdi_body_length answers");
+    expect(sizeof pdi_owner(image, length, number, number) == 8, "what pdi_owner answers");
+}
+
 /* What names stand for. How long the rows and the image may be is asked of the archive itself, by the outside test. */
 static void test_order(void)
 {
     expect(PDI_KIND == 0 && PDI_IMAGES == 1 && PDI_PARTITIONS == 2 && PDI_BILLED == 3 && PDI_BILLED + 1 == PDI_HEAD, "the head's order");
     expect(PDI_SPAN_START == 0 && PDI_ATTRIBUTES < PDI_ROW, "the order of a row");
     expect(PDI_LAST_RULE < 64 && PDI_MOST_PARTITIONS < 64, "an answer that is 64 * number + p");
+    expect(PDI_IMAGE_HEADERS == PDI_LOAD_CLASH + 1 && PDI_IMAGE_HEADERS <= PDI_LAST_RULE, "rule 20 comes after 19");
 }
 
 int main(void)
 {
     test_answers();
     test_rows();
+    test_calls();
     test_order();
     return faults != 0;
 }

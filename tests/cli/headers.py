@@ -1,4 +1,4 @@
-"""Writes the headers of an image, for images.py and bench_image.py. The words and offsets are written out here and not taken from the
+"""Writes the headers of an image, for the makers of images beside it. The words and offsets are written out here and not taken from the
 command's sources, so that a fault there can't hide.
 """
 
@@ -9,9 +9,13 @@ def put(image, offset, *words):
     struct.pack_into(f"<{len(words)}I", image, offset, *words)
 
 
-def seal(image, offset):
-    """Puts the checksum of a table or partition header right."""
-    put(image, offset + 0x7C, sum(struct.unpack_from("<31I", image, offset)) & 0xFFFFFFFF)
+def seal(image, offset, words=32):
+    """Puts the checksum of a table or partition header right, or of a header of so many words: its last word, from all others."""
+    put(image, offset + 4 * (words - 1), sum(struct.unpack_from(f"<{words - 1}I", image, offset)) & 0xFFFFFFFF)
+
+
+def seal_image_header(image, at):
+    seal(image, at, 16)
 
 
 def put_table(image, place, *, kind=b"PPDI", images=1, image_headers, partitions=1, first):
@@ -19,6 +23,12 @@ def put_table(image, place, *, kind=b"PPDI", images=1, image_headers, partitions
     image[place + 0x28 : place + 0x2C] = kind
     put(image, place + 0x2C, 0x00201020)
     seal(image, place)
+
+
+def put_image_header(image, at, *, first, partitions=1):
+    """An image that owns so many partitions, the first with its header at byte `first`."""
+    put(image, at, first // 4, partitions)
+    seal_image_header(image, at)
 
 
 def put_header(image, at, *, lengths, data, load, attributes=0x04000001, following=0, execution=0, key=0, block=(0, 0)):

@@ -3,16 +3,20 @@
 Usage: images.py DIRECTORY
 
 Each image is NAME.pdi. cases.tsv has a line for each answer to expect: name, place, number, p. The bench image and its edits are in
-bench_image.py; here are images of as many partitions as may be, and full ones.
+bench_image.py, images of several images in owned_image.py; here are images of as many partitions as may be, and full ones.
 """
 
+import os
 import pathlib
 import sys
 
 sys.dont_write_bytecode = True  # nothing is left beside the sources
-from bench_image import HEADER, MOST, TABLE, bench, both_twins_bad, broken, decoy, edited, first_twin_bad
+from bench_image import HEADER, IMAGE_HEADER, MOST, TABLE, bench, both_twins_bad, broken, decoy, edited, first_twin_bad
 from bench_image import large, moved, packed, spanned, twins, two, with_block
-from headers import put, put_boot_header, put_header, put_table
+from headers import put, put_boot_header, put_header, put_image_header, put_table
+from owned_image import exchanged, owned, recounted
+
+MOST_IMAGES = int(os.environ["PDI_MOST_IMAGES"])
 
 
 def many(table=0):
@@ -23,6 +27,7 @@ def many(table=0):
     blocks = first + MOST * 128
     image = bytearray(blocks + MOST // 2 * 64)
     put_table(image, table, kind=b"FPDI" if table else b"PPDI", image_headers=table + 128, partitions=MOST, first=first)
+    put_image_header(image, table + 128, first=first, partitions=MOST)
     for p in range(1, MOST + 1):
         at, start = first + 128 * (p - 1), len(image)
         image += bytes([p]) * (4 * p)
@@ -52,21 +57,28 @@ def full(table=8192, plm_total=16):
     image = bytearray(table + 336)
     put_boot_header(image, plm_total)
     put_table(image, table, kind=b"FPDI", images=1, image_headers=table + 128, first=table + 192)
+    put_image_header(image, table + 128, first=table + 192)
     put_header(image, table + 192, lengths=(4, 4, 4), data=table + 320, load=0xFFFC0000, execution=0xFFFC0010)
     image[table + 320 :] = bytes(range(16))
     return image
 
 
-def cases():
-    """Name, image, and one (place, number, p) or more."""
+def table_cases():
+    """The bench image, and edits of its table."""
     yield "bench", bench(), (0, 0, 0), (2, 3, 0), (208, 4, 0), (212, 3, 0)
     yield "empty", bytearray(), (0, 3, 0)
     yield "table_checksum", broken(TABLE + 0x30), (0, 4, 0)
     yield "version", edited({TABLE: 0x00020000}), (0, 5, 0)
     yield "partitions_0", edited({TABLE + 0x0C: 0}), (0, 6, 0)
     yield "partitions_over", edited({TABLE + 0x0C: MOST + 1}), (0, 6, 0)
+    for size in 15, 17:
+        yield f"image_header_size_{size}", edited({TABLE + 0x2C: 0x00200020 + (size << 8)}), (0, 6, 0)
     yield "table_key", edited({TABLE + 0x40: 0x5C3CA5A3}), (0, 7, 0)
     yield "optional_words", edited({TABLE + 0x58: 0xFFFFFFFC}), (0, 9, 0)
+
+
+def header_cases():
+    """Edits of the bench image's partition header, and a second one."""
     yield "next_48", edited({HEADER + 0x0C: 48}), (0, 10, 1)
     yield "header_checksum", broken(HEADER + 0x10), (0, 11, 1)
     yield "type_0", edited({HEADER + 0x24: 0x00000001}), (0, 12, 1)
@@ -91,6 +103,25 @@ def cases():
     yield "block_52", with_block(1, length=52), (0, 17, 1)
     yield "two", two(0x00100010), (0, 0, 0)
     yield "two_clash", two(0x0010000F), (0, 19, 2)
+
+
+def owner_cases():
+    """Image headers: those of the bench image, and of several images."""
+    yield "image_count_0", edited({IMAGE_HEADER + 4: 0}), (0, 20, 0)
+    yield "image_count_2", edited({IMAGE_HEADER + 4: 2}), (0, 20, 0)
+    yield "image_first_49", edited({IMAGE_HEADER: 49}), (0, 20, 0)
+    yield "image_checksum", broken(IMAGE_HEADER + 0x3C), (0, 20, 0)
+    yield "image_free_words", edited({IMAGE_HEADER + 4 * word: 0xFFFFFFFF for word in range(2, 15)}), (0, 0, 0)
+    yield "owned", owned(1, 2, 1), (0, 0, 0)
+    yield "owned_most", owned(*[1] * MOST_IMAGES), (0, 0, 0)
+    yield "owned_over", recounted((1, 2, 1), 1, 2, 2), (0, 20, 0)
+    yield "owned_under", recounted((1, 1, 2), 1, 1, 1), (0, 20, 0)
+    yield "owned_otherwise", recounted((1, 2, 1), 1, 1, 2), (0, 20, 0)
+    yield "owned_exchanged", exchanged(1, 2, 1), (0, 20, 0)
+
+
+def layout_cases():
+    """Images that are laid out otherwise, and full ones."""
     yield "packed", packed(), (0, 0, 0)
     yield "large", large(), (0, 0, 0)
     yield "spanned", spanned(), (0, 15, 1)
@@ -103,6 +134,14 @@ def cases():
     yield "first_twin_bad", first_twin_bad(), (0, 6, 0), (336, 0, 0)
     yield "both_twins_bad", both_twins_bad(), (0, 6, 0), (336, 14, 1)
     yield "decoy", decoy(), (0, 4, 0)
+
+
+def cases():
+    """Name, image, and one (place, number, p) or more."""
+    yield from table_cases()
+    yield from header_cases()
+    yield from owner_cases()
+    yield from layout_cases()
 
 
 def main():

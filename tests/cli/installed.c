@@ -1,5 +1,5 @@
-/* A user of the installed archive: prints number, p, billed bytes, the number of partitions and the first body's length of the image that
- * its argument names, table at place 0. */
+/* A user of the installed archive: prints number, p, billed bytes, the number of partitions, the first body's length and the first
+ * partition's owner image, of the image that its argument names, table at place 0. */
 #include <pdi.h>
 
 #include <inttypes.h>
@@ -18,8 +18,8 @@ int main(int argc, char **argv)
     uint64_t answer = pdi_read(image, length, 0, rows, sizeof rows);
     printf("%u %u", pdi_number(answer), pdi_partition(answer));
     if (pdi_number(answer) == PDI_ACCEPTED)
-        printf(" %" PRIu64 " %" PRIu64 " %" PRIu64, pdi_bill(image, length, 0), pdi_row_number(rows, PDI_PARTITIONS),
-               pdi_body_length(image, length, 0, 1));
+        printf(" %" PRIu64 " %" PRIu64 " %" PRIu64 " %" PRIu64, pdi_bill(image, length, 0), pdi_row_number(rows, PDI_PARTITIONS),
+               pdi_body_length(image, length, 0, 1), pdi_owner(image, length, 0, 1));
     putchar('\n');
     return 0;
 }

@@ -33,6 +33,11 @@ test_liar() {
     what="two bills" && LIAR_BILL=17 call bill bench.pdi && in_trouble "$changed" && silent
     what="one bill" && LIAR_BILL=16 call bill bench.pdi && accepted
     same "$what" 16 "$(cat out)"
+    for answer in 0 2 18446744073709551615; do
+        what="owner image $answer of one" && LIAR_OWNER=$answer call list bench.pdi && in_trouble "$changed" && silent
+    done
+    what="owner image 1 of one" && LIAR_OWNER=1 call list bench.pdi --tsv && accepted
+    same "$what" 1 "$(tail -1 out | cut -f 10)"
     local over=$((PDI_LAST_RULE + 1))
     what="a number over the last" && LIAR_ANSWER=$((64 * over + 3)) call list bench.pdi --place 0 && refused "$over" 3
     check "$what" grep -q 'A rule that this command does not know' err

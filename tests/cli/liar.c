@@ -40,3 +40,9 @@ uint64_t pdi_body_length(const uint8_t *image, size_t image_len, uint64_t place,
     (void)image, (void)image_len, (void)place, (void)p;
     return told("LIAR_BODY", 16);
 }
+
+uint64_t pdi_owner(const uint8_t *image, size_t image_len, uint64_t place, uint64_t p)
+{
+    (void)image, (void)image_len, (void)place, (void)p;
+    return told("LIAR_OWNER", 1);
+}

@@ -9,6 +9,12 @@ an actual key or signature size is over its total
   whose  header p
   ask    How the partition was packed
   p      the partition, counted from 1 in chain order; 0 means the image as a whole, or its table" "$(cat out)"
+    what="explain 20" && call explain 20 && accepted
+    same "$what" "number 20
+  found  An image header is wrong: its checksum is not the sum of its 15 words, its number of partitions is 0, \
+these numbers do not add up to the table's, or the partition header that it names is not the first of its run of the chain
+  whose  image headers
+  ask    A fresh copy; which partitions each image is to have" "$(cat out)"
     what="explain 0" && call explain 0 && accepted
     check "$what" grep -q 'found  The image is accepted' out
     local n last=$PDI_LAST_RULE
@@ -55,7 +61,7 @@ test_limits() {
     call explain
     stated explain "longer than $gibibytes ($(grouped "$PDI_LONGEST_IMAGE") bytes)" out
     stated explain "$PDI_ROWS_NUMBERS numbers, or $(grouped "$PDI_ROWS_BYTES") bytes for the host" out
-    stated explain "1 to $PDI_MOST_PARTITIONS partitions" out
+    stated explain "1 to $PDI_MOST_IMAGES images and 1 to $PDI_MOST_PARTITIONS partitions" out
     stated explain "entries from 1 to $((PDI_MOST_PARTITIONS + 1))," out
     stated "the man page" "longer than $gibibytes is refused" "$root/cli/foliobriar.1"
     stated "the man page" "a refusal number from 1 to $PDI_LAST_RULE what" "$root/cli/foliobriar.1"

@@ -1,19 +1,25 @@
-//! What the second reader answers of an image that no rule refuses: the rows and the bill.
+//! What the second reader answers of an image that no rule refuses: the rows, the bill and the owners.
 
 use super::headers::Header;
 use super::{HEAD, MOST_PARTITIONS, ROW};
 
-/// What the rules leave to be written: the table, and for each partition its header and where its hash entry lies.
+/// What the rules leave to be written: the table, and for each partition its header, where its hash entry lies and which image owns it.
 pub(super) struct Accepted<'a> {
     pub(super) table: Header<'a>,
     pub(super) headers: [Header<'a>; MOST_PARTITIONS],
     pub(super) entries: [u64; MOST_PARTITIONS],
+    pub(super) owners: [u64; MOST_PARTITIONS],
     pub(super) count: usize,
 }
 
 impl<'a> Accepted<'a> {
     pub(super) fn partitions(&self) -> &[Header<'a>] {
         &self.headers[..self.count]
+    }
+
+    /// The image that owns each partition, counted from 1.
+    pub(super) fn owners(&self) -> &[u64] {
+        &self.owners[..self.count]
     }
 
     pub(super) fn billed(&self) -> u64 {

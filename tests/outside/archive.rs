@@ -1,4 +1,4 @@
-//! The readers to be compared with the second reader: the C archive, and anything else that answers the three questions.
+//! The readers to be compared with the second reader: the C archive, and anything else that answers the four questions.
 //!
 //! The declarations repeat the C header. The archive is linked statically under its own name.
 
@@ -8,17 +8,19 @@ pub trait Subject {
     fn read(&self, image: &[u8], place: u64, rows: &mut [u8]) -> u64;
     fn bill(&self, image: &[u8], place: u64) -> u64;
     fn body_length(&self, image: &[u8], place: u64, p: u64) -> u64;
+    fn owner(&self, image: &[u8], place: u64, p: u64) -> u64;
 }
 
 extern "C" {
     fn pdi_read(image: *const u8, image_len: usize, place: u64, rows: *mut u8, rows_len: usize) -> u64;
     fn pdi_bill(image: *const u8, image_len: usize, place: u64) -> u64;
     fn pdi_body_length(image: *const u8, image_len: usize, place: u64, p: u64) -> u64;
+    fn pdi_owner(image: *const u8, image_len: usize, place: u64, p: u64) -> u64;
 }
 
 pub struct Archive;
 
-// SAFETY, for all three: pointer and length come from one slice, so that the image is readable, the rows are writable, and they don't
+// SAFETY, for all four: pointer and length come from one slice, so that the image is readable, the rows are writable, and they don't
 // overlap. An image behind a `&[u8]` must not be written; the comparer looks whether it was.
 impl Subject for Archive {
     fn read(&self, image: &[u8], place: u64, rows: &mut [u8]) -> u64 {
@@ -31,6 +33,10 @@ impl Subject for Archive {
 
     fn body_length(&self, image: &[u8], place: u64, p: u64) -> u64 {
         unsafe { pdi_body_length(image.as_ptr(), image.len(), place, p) }
+    }
+
+    fn owner(&self, image: &[u8], place: u64, p: u64) -> u64 {
+        unsafe { pdi_owner(image.as_ptr(), image.len(), place, p) }
     }
 }
 
@@ -45,7 +51,7 @@ pub fn null_with_length_0() -> bool {
                 && pdi_read(none, 0, place, no_rows, 0) == 64 * 2
                 && pdi_read(rows.as_ptr(), 336, place, no_rows, 0) == 64 * 2
                 && pdi_bill(none, 0, place) == 0
-                && [0, 1, u64::MAX].into_iter().all(|p| pdi_body_length(none, 0, place, p) == 0)
+                && [0, 1, u64::MAX].into_iter().all(|p| pdi_body_length(none, 0, place, p) == 0 && pdi_owner(none, 0, place, p) == 0)
         }) && rows == [7; ROWS_BYTES]
     }
 }

@@ -1,13 +1,12 @@
-//! The outline's bench image and every case listed with it, starred or not, with the answers printed there.
+//! Every case that the outline lists with its bench image, starred or not, with the answers printed there; and some of the same kind for
+//! image headers.
 //!
 //! The rows of accepted cases are those printed, with the numbers changed that the edit changes.
 
 use crate::archive::Subject;
-use crate::fields::{get, partition, put, put_checksum_right, table, BLOCK_LENGTH, BLOCK_OFFSET, CHECKSUM};
-use crate::limits::{BILLED, MOST_PARTITIONS, ROWS_BYTES};
-
-const HEADER: usize = 192;
-const SECOND_HEADER: usize = 336;
+use crate::bench_image::{bench_image, edit, edit_image_header, two_images, two_partitions, HEADER, IMAGE_HEADER};
+use crate::fields::{image_header, partition, put, table, BLOCK_LENGTH, BLOCK_OFFSET};
+use crate::limits::{BILLED, IMAGES, MOST_PARTITIONS, PARTITIONS, ROWS_BYTES};
 
 pub struct Case {
     pub name: &'static str,
@@ -16,41 +15,19 @@ pub struct Case {
     row_bytes: usize,
     /// Number and p.
     answer: (u64, u64),
-    /// The rows of an acceptance.
+    /// The rows of an acceptance, and which image owns each partition.
     rows: Vec<u64>,
-}
-
-/// The bench image, 336 bytes, with the checksums that its other words give.
-pub fn bench_image() -> Vec<u8> {
-    let mut image = vec![0; 336];
-    let words = [(table::VERSION, 0x0001_0000), (table::IMAGES, 1), (table::IMAGE_HEADERS, 32), (table::PARTITIONS, 1)];
-    let more = [(table::FIRST_HEADER, 48), (table::KIND, u32::from_le_bytes(*b"PPDI")), (table::SIZES, 0x0020_1020)];
-    words.into_iter().chain(more).for_each(|(field, value)| put(&mut image, field, value));
-    put_checksum_right(&mut image, 0);
-    let header = [(partition::E, 4), (partition::U, 4), (partition::T, 4), (partition::LOAD, 0x0010_0000)];
-    edit(&mut image, HEADER, &header);
-    edit(&mut image, HEADER, &[(partition::D, 80), (partition::ATTRIBUTES, 0x0400_0001)]);
-    image[320..].iter_mut().zip(0..).for_each(|(byte, value)| *byte = value);
-    image
-}
-
-/// Whether the two checksums printed in the outline are those of its bench image.
-pub fn checksums_as_printed() -> bool {
-    let image = bench_image();
-    get(&image, CHECKSUM) == 0x4965_60C2 && get(&image, HEADER + CHECKSUM) == 0x0410_005D
-}
-
-pub fn edit(image: &mut [u8], header: usize, edits: &[(usize, u32)]) {
-    edits.iter().for_each(|&(field, value)| put(image, header + field, value));
-    put_checksum_right(image, header);
+    owners: Vec<u64>,
 }
 
 fn printed_rows() -> Vec<u64> {
     vec![2, 1, 1, 16, 320, 16, 16, 1048576, 0, 0, 0, 67108865]
 }
 
+/// Where it is accepted, one image owns all partitions.
 fn case(name: &'static str, image: Vec<u8>, place: u64, answer: (u64, u64), rows: Vec<u64>) -> Case {
-    Case { name, image, place, row_bytes: ROWS_BYTES, answer, rows }
+    let owners = vec![1; rows.get(PARTITIONS).map_or(0, |&count| count as usize)];
+    Case { name, image, place, row_bytes: ROWS_BYTES, answer, rows, owners }
 }
 
 /// The bench image with some words of its table or its partition header edited, refused.
@@ -74,6 +51,7 @@ pub fn cases() -> Vec<Case> {
     all.extend(word_cases());
     all.extend(load_cases());
     all.extend(added_cases());
+    all.extend(image_header_cases());
     all
 }
 
@@ -132,26 +110,46 @@ fn added_cases() -> Vec<Case> {
         edit(&mut image, HEADER, &[(BLOCK_LENGTH, length), (BLOCK_OFFSET, 84)]);
         image
     };
-    let second = |load: u32| {
-        let mut image = bench_image();
-        image.resize(468, 0);
-        edit(&mut image, 0, &[(table::PARTITIONS, 2)]);
-        edit(&mut image, HEADER, &[(partition::NEXT, 84)]);
-        edit(&mut image, SECOND_HEADER, &[(partition::E, 1), (partition::U, 1), (partition::T, 1), (partition::LOAD, load)]);
-        edit(&mut image, SECOND_HEADER, &[(partition::D, 116), (partition::ATTRIBUTES, 0x0400_0001)]);
-        image
-    };
     let mut with_entry = printed_rows();
     with_entry[10] = 336;
-    let mut with_second = printed_rows();
-    with_second[2..4].copy_from_slice(&[2, 20]);
-    with_second.extend([464, 4, 4, 0x0010_0010, 0, 0, 0, 67108865]);
     vec![
         case("block at word 84, index 1", block(1, 64), 0, (0, 0), with_entry),
         case("block at word 84, index 2", block(2, 64), 0, (17, 1), Vec::new()),
         case("block at word 84, length 52", block(1, 52), 0, (17, 1), Vec::new()),
-        case("second partition at 0x00100010", second(0x0010_0010), 0, (0, 0), with_second),
-        case("second partition at 0x0010000F", second(0x0010_000F), 0, (19, 2), Vec::new()),
+        case("second partition at 0x00100010", two_partitions(0x0010_0010), 0, (0, 0), two_rows(1)),
+        case("second partition at 0x0010000F", two_partitions(0x0010_000F), 0, (19, 2), Vec::new()),
+    ]
+}
+
+fn two_rows(images: u64) -> Vec<u64> {
+    let mut rows = printed_rows();
+    rows[IMAGES..=BILLED].copy_from_slice(&[images, 2, 20]);
+    rows.extend([464, 4, 4, 0x0010_0010, 0, 0, 0, 67108865]);
+    rows
+}
+
+/// Rule 20 and the size that rule 6 asks for. The last two have a second partition at 0x00100010.
+fn image_header_cases() -> Vec<Case> {
+    let broken = |name: &'static str, first: u32, count: u32| {
+        let mut image = bench_image();
+        edit_image_header(&mut image, IMAGE_HEADER, first, count);
+        case(name, image, 0, (20, 0), Vec::new())
+    };
+    let mut one_off = bench_image();
+    put(&mut one_off, IMAGE_HEADER + image_header::CHECKSUM, 0x32);
+    let mut one_left = two_partitions(0x0010_0010);
+    edit_image_header(&mut one_left, IMAGE_HEADER, 48, 1);
+    vec![
+        refused("image header size 15", 0, &[(table::SIZES, 0x0020_0F20)], 6, 0),
+        refused("image header size 17", 0, &[(table::SIZES, 0x0020_1120)], 6, 0),
+        broken("count 0", 48, 0),
+        broken("count 2", 48, 2),
+        broken("count 2^32 - 1", 48, u32::MAX),
+        broken("word 0 one word on", 49, 1),
+        broken("word 0 in bytes", 192, 1),
+        case("image header checksum one off", one_off, 0, (20, 0), Vec::new()),
+        case("second partition that no image owns", one_left, 0, (20, 0), Vec::new()),
+        Case { owners: vec![1, 2], ..case("second partition with an image of its own", two_images(), 0, (0, 0), two_rows(2)) },
     ]
 }
 
@@ -173,5 +171,10 @@ impl Case {
             && reader.body_length(&self.image, self.place, 1) == body
             && reader.body_length(&self.image, self.place, 0) == 0
             && reader.body_length(&self.image, self.place, 3) == 0
+            && (0..=4).chain([u64::MAX]).all(|p| reader.owner(&self.image, self.place, p) == self.owner(p))
+    }
+
+    fn owner(&self, p: u64) -> u64 {
+        (1..).zip(&self.owners).find(|&(number, _)| number == p).map_or(0, |(_, &owner)| owner)
     }
 }

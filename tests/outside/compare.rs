@@ -65,7 +65,7 @@ pub struct Lent<'a> {
     pub image: &'a [u8],
     pub place: u64,
     pub row_bytes: usize,
-    /// About how many partitions there are, to ask for bodies near that number.
+    /// About how many partitions there are, to ask for bodies and owners near that number.
     pub partitions: u64,
 }
 
@@ -92,7 +92,20 @@ pub fn compare(subject: &impl Subject, lent: &Lent, rows: &mut Rows, random: &mu
             same(What::Answer, &format!("body length of partition {p}"), length, other)?;
         }
     }
+    compare_owners(subject, lent)?;
     Ok(ours)
+}
+
+/// Asks for the owner of every partition and of some that are none; in 32 bits, the last but one of them would be the first.
+fn compare_owners(subject: &impl Subject, lent: &Lent) -> Result<(), Difference> {
+    let Lent { image, place, partitions, .. } = *lent;
+    for p in (0..=partitions + 1).chain([(1 << 32) + 1, u64::MAX]) {
+        let (owner, other) = (reader::owner(image, place, p), subject.owner(image, place, p));
+        if owner != other {
+            same(What::Answer, &format!("owner of partition {p}"), owner, other)?;
+        }
+    }
+    Ok(())
 }
 
 fn same(what: What, question: &str, second_reader: u64, subject: u64) -> Result<(), Difference> {

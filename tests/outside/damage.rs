@@ -6,10 +6,11 @@
 use crate::damage_blocks::rule_17;
 use crate::damage_boot::rule_8;
 use crate::damage_chain::rule_10;
+use crate::damage_images::{any_image, rule_20};
 use crate::damage_partition::{rule_11, rule_12, rule_13, rule_14, rule_15, rule_16};
 use crate::damage_ranges::{rule_18, rule_19};
 use crate::damage_table::{rule_1, rule_2, rule_3, rule_4, rule_5, rule_6, rule_7, rule_9};
-use crate::fields::{boot, get, put, put_boot_checksum_right, put_checksum_right, HEADER};
+use crate::fields::{boot, get, image_header, put, put_boot_checksum_right, put_checksum_right, put_image_checksum_right, HEADER};
 use crate::layout::{Image, Part};
 use crate::limits::{LAST_RULE, MOST_PARTITIONS};
 use crate::plan::Wish;
@@ -28,7 +29,7 @@ pub enum Aim {
 /// How each rule is broken, from rule 1 on.
 const WAYS: [fn(&mut Image, &mut Random) -> Aim; LAST_RULE] = [
     rule_1, rule_2, rule_3, rule_4, rule_5, rule_6, rule_7, rule_8, rule_9, rule_10, rule_11, rule_12, rule_13, rule_14, rule_15, rule_16,
-    rule_17, rule_18, rule_19,
+    rule_17, rule_18, rule_19, rule_20,
 ];
 
 /// What an image needs so that this rule can be broken.
@@ -41,9 +42,14 @@ pub fn break_rule(rule: u64, image: &mut Image, random: &mut Random) -> Aim {
     WAYS[rule as usize - 1](image, random)
 }
 
-/// Breaks several rules, the highest number first, so that no later edit mends an earlier damage of a lower number. The lowest wins.
+/// Breaks several rules, the highest number first, so that no later edit mends an earlier damage of a lower number. The lowest wins. Often
+/// these are the last rule and one just before it, which few others leave to be reached.
 pub fn break_several(image: &mut Image, random: &mut Random) -> Aim {
-    let mut rules: Vec<u64> = (0..random.between(2, 4)).map(|_| random.between(1, LAST_RULE as u64)).collect();
+    let last = LAST_RULE as u64;
+    let mut rules: Vec<u64> = match random.below(4) {
+        0 => vec![random.between(last - 3, last - 1), last],
+        _ => (0..random.between(2, 4)).map(|_| random.between(1, last)).collect(),
+    };
     rules.sort_unstable();
     rules.dedup();
     // Both may move a hash block, and 17 wants to find it where it was.
@@ -74,15 +80,14 @@ pub fn break_twice(image: &mut Image, random: &mut Random) -> Aim {
 /// Writes telling values to a few words of the headers; mostly the checksum is put right.
 pub fn edit_words(image: &mut Image, random: &mut Random) -> Aim {
     for _ in 0..random.between(1, 3) {
-        let header = match random.below(4) {
-            0 => image.table,
-            _ => image.header(random.index(image.count()) + 1),
-        };
-        let at = header + 4 * random.index(HEADER / 4);
+        let (header, bytes) = any_header(image, random);
+        let at = header + 4 * random.index(bytes / 4);
         let value = telling_value(image, random, at);
         put(&mut image.bytes, at, value);
-        if !random.one_in(4) {
-            put_checksum_right(&mut image.bytes, header);
+        match bytes {
+            _ if random.one_in(4) => {}
+            HEADER => put_checksum_right(&mut image.bytes, header),
+            _ => put_image_checksum_right(&mut image.bytes, header),
         }
     }
     if image.plan.full && random.one_in(4) {
@@ -92,6 +97,15 @@ pub fn edit_words(image: &mut Image, random: &mut Random) -> Aim {
         put_boot_checksum_right(&mut image.bytes);
     }
     Aim::Open
+}
+
+/// Where the table, an image header or a partition header starts, and its length.
+fn any_header(image: &Image, random: &mut Random) -> (usize, usize) {
+    match random.below(5) {
+        0 => (image.table, HEADER),
+        1 => (image.image_header(any_image(image, random)), image_header::BYTES),
+        _ => (image.header(random.index(image.count()) + 1), HEADER),
+    }
 }
 
 fn telling_value(image: &Image, random: &mut Random, at: usize) -> u32 {
@@ -111,11 +125,8 @@ fn telling_value(image: &Image, random: &mut Random, at: usize) -> u32 {
 
 pub fn flip_bits(image: &mut Image, random: &mut Random) -> Aim {
     for _ in 0..random.between(1, 3) {
-        let at = match random.below(3) {
-            0 => image.table + random.index(HEADER),
-            1 => image.header(random.index(image.count()) + 1) + random.index(HEADER),
-            _ => random.index(image.bytes.len()),
-        };
+        let (header, bytes) = any_header(image, random);
+        let at = if random.one_in(3) { random.index(image.bytes.len()) } else { header + random.index(bytes) };
         image.bytes[at] ^= 1 << random.below(8);
     }
     Aim::Open

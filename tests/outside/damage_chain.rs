@@ -2,7 +2,7 @@
 
 use crate::damage::Aim;
 use crate::damage_partition::{any_partition, WRAP};
-use crate::fields::{partition, table, HEADER};
+use crate::fields::{image_header, partition, table, HEADER};
 use crate::layout::Image;
 use crate::limits::MOST_PARTITIONS;
 use crate::random::Random;
@@ -71,7 +71,7 @@ fn misroute(image: &mut Image, random: &mut Random) -> Aim {
     Aim::At(10, if to <= from { count } else { from + 1 + count - to })
 }
 
-/// Moves a header to the very end of the image, or one byte past it.
+/// Moves a header to the very end of the image, or one byte past it. An image whose run starts there follows.
 fn header_at_end(image: &mut Image, random: &mut Random) -> Aim {
     let p = any_partition(image, random);
     let end = image.bytes.len().next_multiple_of(4);
@@ -80,6 +80,11 @@ fn header_at_end(image: &mut Image, random: &mut Random) -> Aim {
     image.bytes.copy_within(old..old + HEADER, end);
     image.plan.partitions[p - 1].header = end;
     point_to_header(image, p, end as u32 / 4);
+    for i in 1..=image.images() {
+        if image.of_image(i, image_header::FIRST) == old as u32 / 4 {
+            image.set_image(i, image_header::FIRST, end as u32 / 4);
+        }
+    }
     if random.one_in(2) {
         return Aim::At(0, 0);
     }

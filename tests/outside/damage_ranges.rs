@@ -34,8 +34,8 @@ fn meeting(image: &Image, random: &mut Random, part: Part, words: usize) -> Opti
 
 fn move_image_headers(image: &mut Image, random: &mut Random) -> Aim {
     let part = random.pick(&image.parts);
-    let words = (image.plan.images * image.plan.size) as usize;
-    match meeting(image, random, part, words) {
+    let (start, end) = image.extent(Part::ImageHeaders);
+    match meeting(image, random, part, (end - start) / 4) {
         Some(at) if part != Part::ImageHeaders => {
             image.set_table(table::IMAGE_HEADERS, at);
             Aim::At(18, 0)

@@ -2,7 +2,7 @@
 
 use crate::damage::Aim;
 use crate::fields::{table, *};
-use crate::layout::Image;
+use crate::layout::{Image, Part};
 use crate::limits::{LONGEST_IMAGE, MOST_PARTITIONS, ROWS_BYTES};
 use crate::random::Random;
 
@@ -71,13 +71,14 @@ pub fn rule_5(image: &mut Image, random: &mut Random) -> Aim {
 pub fn rule_6(image: &mut Image, random: &mut Random) -> Aim {
     let sizes = image.of_table(table::SIZES);
     let not_32 = random.pick(&[0, 1, 16, 31, 33, 64, 160, 255]);
-    let most = MOST_IMAGES.max(MOST_PARTITIONS as u32);
+    let not_16 = random.pick(&[0, 1, 8, 15, 15, 17, 17, 32, 48, 144, 255]);
+    let most = MOST_IMAGES.max(MOST_PARTITIONS) as u32;
     let count = random.pick(&[0, most + 1, most + 2, 64, 0x100, 0x101, 0x8000_0001, u32::MAX]);
     match random.below(8) {
         0 => image.set_table(table::IMAGES, count),
         1 => image.set_table(table::PARTITIONS, count),
         2 => image.set_table(table::SIZES, sizes & !0xFF | not_32),
-        3 => image.set_table(table::SIZES, sizes & !0xFF00),
+        3 => image.set_table(table::SIZES, sizes & !0xFF00 | not_16 << 8),
         4 => image.set_table(table::SIZES, sizes & !0xFF_0000 | not_32 << 16),
         5 => {
             let optional = image.of_table(table::OPTIONAL);
@@ -111,7 +112,8 @@ pub fn rule_7(image: &mut Image, random: &mut Random) -> Aim {
 
 pub fn rule_9(image: &mut Image, random: &mut Random) -> Aim {
     let length = image.bytes.len();
-    let words = (image.plan.images * image.plan.size) as usize;
+    let (start, end) = image.extent(Part::ImageHeaders);
+    let words = (end - start) / 4;
     let last = (length - 4 * words) / 4;
     let optional_past = ((length - image.table - HEADER) / 16 + 1) * 4;
     let (offset, optional) = (image.image_headers / 4, image.plan.optional);

@@ -1,6 +1,6 @@
 //! An image's words, read and changed by name: what the damages need. Checksums are put right after a change.
 
-use crate::fields::{get, partition, put, put_boot_checksum_right, put_checksum_right};
+use crate::fields::{get, image_header, partition, put, put_boot_checksum_right, put_checksum_right, put_image_checksum_right, table};
 use crate::layout::Image;
 use crate::random::Random;
 
@@ -23,6 +23,48 @@ impl Image {
         let header = self.header(p);
         put(&mut self.bytes, header + field, value);
         put_checksum_right(&mut self.bytes, header);
+    }
+
+    pub fn images(&self) -> usize {
+        self.plan.counts.len()
+    }
+
+    /// Where the header of an image lies; images count from 1.
+    pub fn image_header(&self, image: usize) -> usize {
+        self.image_headers + image_header::BYTES * (image - 1)
+    }
+
+    pub fn of_image(&self, image: usize, field: usize) -> u32 {
+        get(&self.bytes, self.image_header(image) + field)
+    }
+
+    pub fn set_image(&mut self, image: usize, field: usize, value: u32) {
+        let header = self.image_header(image);
+        put(&mut self.bytes, header + field, value);
+        put_image_checksum_right(&mut self.bytes, header);
+    }
+
+    pub fn counts(&self) -> Vec<u32> {
+        self.plan.counts.iter().map(|&count| count as u32).collect()
+    }
+
+    /// Gives the images these counts, and each the header at which its run starts, by sums modulo 2^32; past the last partition, any other
+    /// word. Another number of image headers lies at the end.
+    pub fn set_counts(&mut self, random: &mut Random, counts: &[u32]) {
+        if counts.len() != self.images() {
+            self.image_headers = self.grow(random, image_header::BYTES * counts.len());
+            self.set_table(table::IMAGES, counts.len() as u32);
+            self.set_table(table::IMAGE_HEADERS, self.image_headers as u32 / 4);
+        }
+        self.plan.counts = counts.iter().map(|&count| count as usize).collect();
+        let mut before: u32 = 0;
+        for (image, &count) in (1..).zip(counts) {
+            let other = random.pick(&[0, self.table, self.header(self.count())]);
+            let first = self.plan.partitions.get(before as usize).map_or(other, |partition| partition.header);
+            self.set_image(image, image_header::FIRST, first as u32 / 4);
+            self.set_image(image, image_header::COUNT, count);
+            before = before.wrapping_add(count);
+        }
     }
 
     pub fn of_table(&self, field: usize) -> u32 {

@@ -2,7 +2,7 @@
 //!
 //! Each function gives the input and the first line to be printed, and takes the next of its variants at each turn.
 
-use crate::bench_cases::{bench_image, edit};
+use crate::bench_image::{bench_image, edit};
 use crate::damage::Aim;
 use crate::fields::{partition, HEADER as TABLE};
 use crate::images::{damaged, valid};

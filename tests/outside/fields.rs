@@ -16,6 +16,16 @@ pub mod table {
     pub const OPTIONAL: usize = 0x58;
 }
 
+/// Offsets in an image header, and its length.
+pub mod image_header {
+    pub const FIRST: usize = 0x00;
+    pub const COUNT: usize = 0x04;
+    /// Words 2 to 14 aren't examined.
+    pub const UNEXAMINED: usize = 0x08;
+    pub const CHECKSUM: usize = 0x3C;
+    pub const BYTES: usize = 64;
+}
+
 /// Offsets in a partition header.
 pub mod partition {
     pub const E: usize = 0x00;
@@ -41,7 +51,7 @@ pub const BLOCK_OFFSET: usize = 0x64;
 pub const RESERVED: usize = 0x78;
 pub const CHECKSUM: usize = 0x7C;
 pub const HEADER: usize = 128;
-pub const MOST_IMAGES: u32 = 32;
+pub const MOST_IMAGES: usize = 32;
 
 /// Offsets in the boot header.
 pub mod boot {
@@ -74,6 +84,11 @@ pub fn put(bytes: &mut [u8], at: usize, value: u32) {
     bytes[at..at + 4].copy_from_slice(&value.to_le_bytes());
 }
 
+fn add(bytes: &mut [u8], at: usize, value: u32) {
+    let old = get(bytes, at);
+    put(bytes, at, old.wrapping_add(value));
+}
+
 fn sum(bytes: &[u8], from: usize, to: usize) -> u32 {
     (from..to).step_by(4).fold(0, |total, at| total.wrapping_add(get(bytes, at)))
 }
@@ -88,11 +103,26 @@ pub fn put_checksum_right(bytes: &mut [u8], header: usize) {
     put(bytes, header + CHECKSUM, right);
 }
 
+/// The checksum that the image header at this place ought to have.
+pub fn right_image_checksum(bytes: &[u8], header: usize) -> u32 {
+    sum(bytes, header, header + image_header::CHECKSUM)
+}
+
+pub fn put_image_checksum_right(bytes: &mut [u8], header: usize) {
+    let right = right_image_checksum(bytes, header);
+    put(bytes, header + image_header::CHECKSUM, right);
+}
+
 /// Makes the checksum that stands there right by changing an unexamined word instead.
 pub fn suit_checksum(bytes: &mut [u8], header: usize, unexamined: usize) {
     let missing = get(bytes, header + CHECKSUM).wrapping_sub(right_checksum(bytes, header));
-    let old = get(bytes, header + unexamined);
-    put(bytes, header + unexamined, old.wrapping_add(missing));
+    add(bytes, header + unexamined, missing);
+}
+
+/// As `suit_checksum`, for an image header.
+pub fn suit_image_checksum(bytes: &mut [u8], header: usize) {
+    let missing = get(bytes, header + image_header::CHECKSUM).wrapping_sub(right_image_checksum(bytes, header));
+    add(bytes, header + image_header::UNEXAMINED, missing);
 }
 
 pub fn put_boot_checksum_right(bytes: &mut [u8]) {
@@ -103,8 +133,7 @@ pub fn put_boot_checksum_right(bytes: &mut [u8]) {
 /// As `suit_checksum`, for the boot header.
 pub fn suit_boot_checksum(bytes: &mut [u8]) {
     let missing = get(bytes, boot::CHECKSUM).wrapping_neg().wrapping_sub(sum(bytes, boot::WIDTH, boot::CHECKSUM));
-    let old = get(bytes, boot::USER_DATA);
-    put(bytes, boot::USER_DATA, old.wrapping_add(missing));
+    add(bytes, boot::USER_DATA, missing);
 }
 
 /// The bytes of a hash block of n entries.

@@ -4,6 +4,7 @@
 //! no sum wraps; only the checksum sum is modulo 2^32.
 
 pub const HEADER_BYTES: u64 = 128;
+pub const IMAGE_HEADER_BYTES: u64 = 64;
 
 /// The table or a partition header: 128 bytes of the image, looked at in place.
 #[derive(Clone, Copy)]
@@ -68,8 +69,7 @@ impl Header<'_> {
     }
 
     pub fn image_headers(&self) -> Range<u64> {
-        let size = u64::from(bits(self.word(0x2C), 15, 8));
-        Range::from(4 * self.wide(0x08), 4 * self.images() * size)
+        Range::from(4 * self.wide(0x08), IMAGE_HEADER_BYTES * self.images())
     }
 }
 

@@ -3,9 +3,9 @@
 //! They are lent read-only and end just before an unreadable page.
 
 use crate::archive::Subject;
-use crate::bench_cases::{bench_image, edit};
+use crate::bench_image::{bench_image, edit};
 use crate::compare::{compare, shown, Difference, Lent, Rows};
-use crate::fields::{boot, get, partition, table, BLOCK_LENGTH, BLOCK_OFFSET};
+use crate::fields::{boot, get, image_header, partition, table, BLOCK_LENGTH, BLOCK_OFFSET};
 use crate::layout::{lay_out, Image};
 use crate::limits::{HASH_ENTRY, HEAD, LONGEST_IMAGE as LONGEST, ROW, ROWS_BYTES, SPAN_START};
 use crate::memory::Region;
@@ -150,6 +150,9 @@ fn shift_offsets(image: &mut Image, words: u32) {
     }
     if image.of_table(BLOCK_LENGTH) != 0 {
         image.set_table(BLOCK_OFFSET, shifted(image.of_table(BLOCK_OFFSET)));
+    }
+    for i in 1..=image.images() {
+        image.set_image(i, image_header::FIRST, shifted(image.of_image(i, image_header::FIRST)));
     }
     for p in 1..=image.count() {
         let has_checksum = image.of_header(p, partition::ATTRIBUTES) >> 12 & 3 == 3;

@@ -4,7 +4,7 @@
 //! checksum, an unexamined word of the same header is changed so that it is right, and rule 18 alone is broken. `layout_words.rs` writes
 //! the words.
 
-use crate::fields::{block_bytes, boot, HEADER};
+use crate::fields::{block_bytes, boot, image_header, HEADER};
 use crate::limits::ROWS_BYTES;
 use crate::plan::Plan;
 use crate::plan_partitions::Partition;
@@ -76,7 +76,7 @@ impl Image {
         let (start, length) = match part {
             Part::Boot => (0, boot::BYTES),
             Part::Table => (self.table, HEADER + 4 * self.plan.optional as usize),
-            Part::ImageHeaders => (self.image_headers, 4 * (self.plan.images * self.plan.size) as usize),
+            Part::ImageHeaders => (self.image_headers, image_header::BYTES * self.plan.counts.len()),
             Part::Header(i) => (self.plan.partitions[i].header, HEADER),
             Part::Span(i) => (self.plan.partitions[i].data, 4 * self.plan.partitions[i].t as usize),
             Part::Block(b) => (self.plan.blocks[b].at, block_bytes(self.plan.blocks[b].indexes.len())),

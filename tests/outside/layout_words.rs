@@ -1,6 +1,6 @@
 //! Writes the words of an image whose parts have their places; words and bytes that no rule examines stay random.
 
-use crate::fields::{boot, partition, table, *};
+use crate::fields::{boot, image_header, partition, table, *};
 use crate::layout::{Image, Part};
 use crate::plan_partitions::Partition;
 use crate::random::Random;
@@ -17,6 +17,7 @@ impl Image {
             self.write_boot(random);
         }
         self.write_table();
+        self.write_image_headers();
         for i in 0..self.count() {
             self.write_header(random, i);
         }
@@ -33,7 +34,19 @@ impl Image {
             (Part::Table | Part::Header(_), false) => put_checksum_right(&mut self.bytes, start),
             (Part::Table, true) => suit_checksum(&mut self.bytes, start, table::PDI_ID),
             (Part::Header(_), true) => suit_checksum(&mut self.bytes, start, partition::ID),
+            (Part::ImageHeaders, is_sharing) => self.write_image_checksums(is_sharing),
             _ => {}
+        }
+    }
+
+    /// The end that may be shared is the last image header's checksum.
+    fn write_image_checksums(&mut self, is_sharing: bool) {
+        for image in 1..=self.images() {
+            let at = self.image_header(image);
+            match is_sharing && image == self.images() {
+                true => suit_image_checksum(&mut self.bytes, at),
+                false => put_image_checksum_right(&mut self.bytes, at),
+            }
         }
     }
 
@@ -60,16 +73,24 @@ impl Image {
         let reserved_bits = get(&self.bytes, self.table + table::SIZES) & 0xFF00_0000;
         let mut set = |field: usize, value: u32| put(&mut self.bytes, self.table + field, value);
         set(table::VERSION, 0x0001_0000);
-        set(table::IMAGES, plan.images);
+        set(table::IMAGES, plan.counts.len() as u32);
         set(table::IMAGE_HEADERS, self.image_headers as u32 / 4);
         set(table::PARTITIONS, plan.partitions.len() as u32);
         set(table::FIRST_HEADER, plan.partitions[0].header as u32 / 4);
         set(table::KIND, u32::from_le_bytes(if plan.full { *b"FPDI" } else { *b"PPDI" }));
-        set(table::SIZES, reserved_bits | 32 << 16 | plan.size << 8 | 32);
+        set(table::SIZES, reserved_bits | 32 << 16 | 16 << 8 | 32);
         set(table::KEY, plan.key);
         set(table::OPTIONAL, plan.optional);
         set(RESERVED, 0);
         self.write_block(self.table, self.plan.own_block);
+    }
+
+    fn write_image_headers(&mut self) {
+        for (image, first) in (1..).zip(self.plan.firsts()) {
+            let (at, word) = (self.image_header(image), self.header(first) / 4);
+            put(&mut self.bytes, at + image_header::FIRST, word as u32);
+            put(&mut self.bytes, at + image_header::COUNT, self.plan.counts[image - 1] as u32);
+        }
     }
 
     fn write_block(&mut self, owner: usize, block: Option<usize>) {

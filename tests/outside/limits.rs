@@ -15,6 +15,7 @@ pub const MOST_ENTRIES: usize = MOST_PARTITIONS + 1;
 
 /// The numbers of the head and of a row, and how many there are.
 pub const KIND: usize = stated(b"PDI_KIND");
+pub const IMAGES: usize = stated(b"PDI_IMAGES");
 pub const PARTITIONS: usize = stated(b"PDI_PARTITIONS");
 pub const BILLED: usize = stated(b"PDI_BILLED");
 pub const HEAD: usize = stated(b"PDI_HEAD");

@@ -6,12 +6,14 @@
 
 mod archive;
 mod bench_cases;
+mod bench_image;
 mod checks;
 mod compare;
 mod damage;
 mod damage_blocks;
 mod damage_boot;
 mod damage_chain;
+mod damage_images;
 mod damage_partition;
 mod damage_ranges;
 mod damage_table;
@@ -26,6 +28,7 @@ mod layout;
 mod layout_words;
 mod limits;
 mod memory;
+mod mistaken_images;
 mod mistaken_prints;
 mod mistaken_rules;
 mod mistakes;
@@ -45,7 +48,8 @@ use std::path::Path;
 use std::process::ExitCode;
 
 use archive::{null_with_length_0, Archive, Subject};
-use bench_cases::{cases, checksums_as_printed};
+use bench_cases::cases;
+use bench_image::checksums_as_printed;
 use checks::Checks;
 use compare::What;
 use large::Large;
@@ -122,9 +126,10 @@ fn test_generated(checks: &mut Checks, options: &Options) {
 fn test_reach(checks: &mut Checks, tally: &Tally) {
     checks.check("every number is hit", tally.by_number.iter().all(|&count| count > 0));
     let kinds = [tally.full, tally.partial, tally.with_entries, tally.of_one, tally.of_most, tally.out_of_order];
-    checks.check("every kind of accepted image is hit", kinds.iter().all(|&count| count > 0));
+    let images = [tally.of_one_image, tally.of_some_images, tally.of_most_images];
+    checks.check("every kind of accepted image is hit", kinds.iter().chain(&images).all(|&count| count > 0));
     checks.check("every deliberate damage reaches its rule and partition", tally.aimed == tally.hit);
-    checks.check("valid images have the rows planned", tally.rows_as_planned > 0 && tally.rows_otherwise == 0);
+    checks.check("valid images have the rows and owners planned", tally.as_planned > 0 && tally.otherwise == 0);
     checks.check("no reading past an image: unreadable pages", tally.before_guard > 0 && tally.after_guard > 0);
 }
 

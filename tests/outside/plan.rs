@@ -1,4 +1,4 @@
-//! What a valid image holds, before it has places: counts, sizes, keys, partitions and hash blocks, all chosen at random.
+//! What a valid image holds, before it has places: images, keys, partitions and hash blocks, all chosen at random.
 //!
 //! Every value that the rules allow can come out, and those at the edge of a rule come out often. `layout.rs` gives the places.
 
@@ -17,9 +17,8 @@ pub struct Block {
 
 pub struct Plan {
     pub full: bool,
-    pub images: u32,
-    /// Words of an image header.
-    pub size: u32,
+    /// How many partitions each image owns, in table order.
+    pub counts: Vec<usize>,
     pub optional: u32,
     pub key: u32,
     pub boot_key: u32,
@@ -47,35 +46,19 @@ impl Plan {
         let count = partition_count(random).max(wish.partitions);
         let mut plan = Plan {
             full,
-            images: random.pick(&[1, 1, 2, MOST_IMAGES, 0]),
-            size: random.pick(&[1, 16, 16, 16, 0]),
-            optional: 4 * random.pick(&[0, 0, 0, 1, 2, 7]),
+            counts: choose_counts(random, count),
+            optional: choose_optional(random),
             key,
             boot_key,
             partitions: (0..count).map(|_| choose_partition(random)).collect(),
             blocks: Vec::new(),
             own_block: None,
         };
-        plan.choose_sizes(random);
         choose_loads(random, &mut plan.partitions);
         if wish.blocks || random.one_in(2) {
             plan.choose_blocks(random);
         }
         plan
-    }
-
-    /// Where the first choice was 0, any count; seldom the largest sizes, as these images are long.
-    fn choose_sizes(&mut self, random: &mut Random) {
-        if self.images == 0 {
-            self.images = random.between(1, MOST_IMAGES.into()) as u32;
-        }
-        if self.size == 0 {
-            let largest = random.pick(&[24, 24, 24, 255]);
-            self.size = random.between(1, largest) as u32;
-        }
-        if random.one_in(50) {
-            self.optional = 4 * random.between(1, 400) as u32;
-        }
     }
 
     /// Gives some owners (0 the table, p partition p) a block, alone or shared.
@@ -119,7 +102,7 @@ impl Plan {
     /// The numbers that an acceptance writes.
     pub fn rows(&self) -> Vec<u64> {
         let billed = self.partitions.iter().map(|partition| 4 * u64::from(partition.t)).sum();
-        let mut rows = vec![if self.full { 1 } else { 2 }, self.images.into(), self.partitions.len() as u64, billed];
+        let mut rows = vec![if self.full { 1 } else { 2 }, self.counts.len() as u64, self.partitions.len() as u64, billed];
         for (p, partition) in (1..).zip(&self.partitions) {
             let entry = partition.block.map_or(0, |block| self.blocks[block].entry(p));
             let (key, attributes) = (partition.key.into(), partition.attributes.into());
@@ -127,6 +110,16 @@ impl Plan {
             rows.extend([partition.data as u64, length, loaded, partition.load, partition.execution, key, entry, attributes]);
         }
         rows
+    }
+
+    /// The first partition of each image's run.
+    pub fn firsts(&self) -> Vec<usize> {
+        (0..self.counts.len()).map(|i| 1 + self.counts[..i].iter().sum::<usize>()).collect()
+    }
+
+    /// The image that owns partition p: as many runs have started by then.
+    pub fn owner(&self, p: usize) -> u64 {
+        self.firsts().into_iter().filter(|&first| first <= p).count() as u64
     }
 
     /// Whether a header lies before one that it follows in the chain.
@@ -150,6 +143,25 @@ fn partition_count(random: &mut Random) -> usize {
         3..=6 => random.index(4) + 1,
         _ => random.index(MOST_PARTITIONS) + 1,
     }
+}
+
+/// Cuts a chain of so many partitions into runs, at random: how many partitions each image owns.
+pub fn choose_counts(random: &mut Random, partitions: usize) -> Vec<usize> {
+    let any = random.index(partitions) + 1;
+    let images = random.pick(&[1, 2, 3, MOST_IMAGES, any, any]).min(partitions);
+    let mut ends: Vec<usize> = (1..partitions).collect();
+    random.shuffle(&mut ends);
+    ends.truncate(images - 1);
+    ends.push(partitions);
+    ends.sort_unstable();
+    let mut start = 0;
+    ends.into_iter().map(|end| end - std::mem::replace(&mut start, end)).collect()
+}
+
+/// Seldom many words, as these images are long.
+fn choose_optional(random: &mut Random) -> u32 {
+    let many = random.between(1, 400) as u32;
+    4 * if random.one_in(50) { many } else { random.pick(&[0, 0, 0, 1, 2, 7]) }
 }
 
 /// The indexes of a block's entries: each member's once, among others that are no member's.

@@ -1,8 +1,8 @@
 //! A second reader of PDI boot images. It follows the outline's rules by number and shares no code with the reader under test.
 //!
 //! It assumes nothing: any bytes, any place and any row buffer get an answer, and nothing panics or is allocated. One function states
-//! one rule and carries its number; it says whether the rule holds, or gives what the rule lets pass. They are in `rules.rs` and
-//! `rules_ranges.rs`, the fields' names and offsets in `headers.rs`, and what an acceptance writes in `acceptance.rs`.
+//! one rule and carries its number; it says whether the rule holds, or gives what the rule lets pass. They are in `rules.rs`,
+//! `rules_ranges.rs` and `rules_images.rs`, the fields' names and offsets in `headers.rs`, what an acceptance writes in `acceptance.rs`.
 
 #[path = "acceptance.rs"]
 mod acceptance;
@@ -10,6 +10,8 @@ mod acceptance;
 mod headers;
 #[path = "rules.rs"]
 mod rules;
+#[path = "rules_images.rs"]
+mod rules_images;
 #[path = "rules_ranges.rs"]
 mod rules_ranges;
 
@@ -55,11 +57,21 @@ pub fn bill(image: &[u8], place: u64) -> u64 {
 /// Body: the first E words of the span of partition p, empty if refused or if p isn't 1 to N.
 pub fn body(image: &[u8], place: u64, p: u64) -> &[u8] {
     let Ok(accepted) = examine(image, place, None) else { return &[] };
-    let Some(index) = p.checked_sub(1) else { return &[] };
-    let header = usize::try_from(index).ok().and_then(|i| accepted.partitions().get(i));
+    let header = index(p).and_then(|i| accepted.partitions().get(i));
     header.and_then(|header| part(image, header.body())).unwrap_or(&[])
 }
 
 pub fn body_length(image: &[u8], place: u64, p: u64) -> u64 {
     body(image, place, p).len() as u64
+}
+
+/// Owner: the image that owns partition p, counted from 1; 0 if refused or if p isn't 1 to N.
+pub fn owner(image: &[u8], place: u64, p: u64) -> u64 {
+    let Ok(accepted) = examine(image, place, None) else { return 0 };
+    index(p).and_then(|i| accepted.owners().get(i)).copied().unwrap_or(0)
+}
+
+/// Where partition p stands in a list of all partitions.
+fn index(p: u64) -> Option<usize> {
+    usize::try_from(p.checked_sub(1)?).ok()
 }

@@ -1,12 +1,13 @@
 //! All rules of the second reader in order, and rules 1 to 14 themselves: lengths, the table, the boot header, the chain, and each header's
-//! words. `rules_ranges.rs` has the others.
+//! words. `rules_ranges.rs` has those about ranges, `rules_images.rs` the one about image headers.
 
 use super::acceptance::Accepted;
 use super::headers::{bits, sum_of_words, word_at, Header};
+use super::rules_images::rule_20;
 use super::rules_ranges::{rule_15, rule_16, rule_17, rule_18, rule_19};
 use super::{BOOT_HEADER_BYTES, COMMON_KEYS, LONGEST_IMAGE, MOST_IMAGES, MOST_PARTITIONS, ROWS_BYTES, USER_KEYS};
 
-/// All rules in order; an error is the answer 64 × number + p. Bill and body pass no row buffer, so rule 2 doesn't arise there.
+/// All rules in order; an error is the answer 64 × number + p. Bill, body and owner pass no row buffer, so rule 2 doesn't arise there.
 pub(super) fn examine(image: &[u8], place: u64, row_bytes: Option<usize>) -> Result<Accepted<'_>, u64> {
     require(1, rule_1(image))?;
     require(2, rule_2(row_bytes))?;
@@ -28,7 +29,8 @@ pub(super) fn examine(image: &[u8], place: u64, row_bytes: Option<usize>) -> Res
     let entries = rule_17(image, &table, partitions)?;
     require(18, rule_18(&table, partitions))?;
     rule_19(partitions)?;
-    Ok(Accepted { table, headers, entries, count })
+    let owners = rule_20(image, &table, partitions).ok_or(refusal(20, 0))?;
+    Ok(Accepted { table, headers, entries, owners, count })
 }
 
 pub(super) fn refusal(number: u64, p: usize) -> u64 {
@@ -74,7 +76,7 @@ pub(super) fn rule_6(table: &Header) -> bool {
     (1..=MOST_IMAGES).contains(&table.images())
         && (1..=MOST_PARTITIONS as u64).contains(&table.partitions())
         && bits(sizes, 7, 0) == 32
-        && bits(sizes, 15, 8) != 0
+        && bits(sizes, 15, 8) == 16
         && bits(sizes, 23, 16) == 32
         && table.optional_words() % 4 == 0
         && table.word(0x78) == 0

@@ -1,7 +1,7 @@
-// Document 01's cases, run: asks the reader's three questions of each case on standard input, which tests/cli/bench_cases.py makes, and
-// prints a line: the case's name, read's answer (64 × number + p), the bill, the length of the body, and then each number of the row buffer
-// that read changed, as index:number. The file stdout is from document 01 and not from a run. Assumes nothing: a case that is cut off is
-// not asked.
+// Document 01's cases, and those of image headers, run: asks the reader's four questions of each case on standard input, which
+// tests/cli/bench_cases.py makes, and prints a line: the case's name, read's answer (64 × number + p), the bill, the length of the body,
+// the owner, and then each number of the row buffer that read changed, as index:number. The file stdout is from documents 01 and 02 and not
+// from a run. Assumes nothing: a case that is cut off is not asked.
 ghost use Prim.Native.Nat.{_≤_};
 ghost use lib.ListN.{length};
 use libc::STDIN_FILENO;
@@ -59,13 +59,14 @@ fn read_into(image: &[u8], place: usize, rows: &mut [u64], n: usize) -> u64 {
     }
 }
 
-// Asks all three questions of an image, and prints what they answer and what read changed.
+// Asks all four questions of an image, and prints what they answer and what read changed.
 fn ask(image: &[u8], place: usize, n: usize, p: usize) {
     let mut rows = [FOUND; ROWS];
     field(read_into(image, place, &mut rows, n));
     field(reader::bill(image, place));
     let body = reader::body(image, place, p);
     field(body.len() as u64);
+    field(reader::owner(image, place, p));
     print_changes(&rows);
     io::write_all(STDOUT_FILENO, b"\n");
 }

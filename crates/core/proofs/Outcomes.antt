@@ -1,5 +1,5 @@
 -- The core's answer: what each way out of it says of the whole list of rules. Assumes nothing.
-use Prim.Native.Nat.{ℕ, _≤_, _<_}
+use Prim.Native.Nat.{ℕ, _+_, _≤_, _<_}
 use native.Mathlib.Omega.{arith}
 use mathlib.Core.Bool.{Bool, true, false}
 use mathlib.Core.List.{List, _∷_, _++_}
@@ -8,13 +8,14 @@ use lib.ListN.{length}
 use borrow.Author.Tests.{lt-ltb, le-ltb}
 use Rattle.pdi_spec.specs.Answers.{asked}
 use Rattle.pdi_spec.specs.File.{File, table, partitions}
-use Rattle.pdi_spec.specs.Headers.{tableFrom}
-use Rattle.pdi_spec.specs.Limits.{longestImage, mostPartitions}
+use Rattle.pdi_spec.specs.Headers.{tableFrom, imageHeaderSize}
+use Rattle.pdi_spec.specs.Images.{images, imageHeaderAt}
+use Rattle.pdi_spec.specs.Limits.{longestImage, mostImages, mostPartitions}
 use Rattle.pdi_spec.specs.RuleList.{tableRules}
 use Rattle.pdi_spec.specs.Rules.{imageTooLong}
 use Rattle.pdi_spec.specs.Verdict.{Rule, once, Outcome, accepted, refused, verdict}
-use Rattle.pdi_spec.specs.Laws.Kept.{counts-stated}
-use Rattle.pdi_spec.specs.Laws.Refusals.{table-p, table-counts}
+use Rattle.pdi_spec.specs.Laws.Kept.{counts-stated, image-header-inside}
+use Rattle.pdi_spec.specs.Laws.Refusals.{table-p, table-counts, table-parts}
 use Rattle.pdi_spec.specs.Laws.Verdict.{andThen, verdict-append, accepted-kept}
 use Rattle.headers.specs.Headers.{tableOf}
 use Rattle.headers.specs.declared.table.TableHeader.{TableHeader}
@@ -23,6 +24,7 @@ use Rattle.table_rules.specs.declared.TableAnswer.{TableAnswer}
 use Rattle.chain_rules.specs.Answers.{answerOf}
 use Rattle.chain_rules.specs.Chain.{IsTable, fileOf}
 use Rattle.chain_rules.specs.declared.Answer.{Answer}
+use Rattle.image_rules.specs.Runs.{ImagesInside}
 use Rattle.core.specs.Readings.{coreRules, outcomeOf, Held, CoreAnswer}
 use Rattle.core.specs.declared.Reading.{Reading}
 use Rattle.core.proofs.Stages.{kept-accepts, refused-refuses, once-broken, once-kept}
@@ -86,10 +88,11 @@ pub record TableKept (bytes : List ℕ) (place : ℕ) (t : TableHeader) : Type 0
   pub at-place : t .place ≡ place
   pub own : IsTable bytes t
   pub few : t .partitions ≤ mostPartitions
+  pub images : ImagesInside bytes t
 
 pub table-checked : (bytes : List ℕ) (place : ℕ) {t : TableHeader} → tableAnswer (asked bytes place) ≡ TableAnswer.Checked t
     → TableKept bytes place t
-unfolding tableAnswer tableAnswerOf table tableFrom partitions
+unfolding tableAnswer tableAnswerOf table tableFrom partitions images
 table-checked bytes place {t} e = go (verdict tableRules (asked bytes place)) refl e
   where
     go : (o : Outcome) → verdict tableRules (asked bytes place) ≡ o
@@ -98,12 +101,24 @@ table-checked bytes place {t} e = go (verdict tableRules (asked bytes place)) re
     go accepted q h =
         let same : toTable (table (asked bytes place)) ≡ t = cc in
         let at : place ≡ t .place = ap (λ (u : TableHeader). u .place) same in
-        let few = counts-stated (asked bytes place) (accepted-kept tableRules (asked bytes place) q table-counts) .3 in
+        let own : IsTable bytes t = sym (ap tableOf same) ∙ ap (λ (p : ℕ). table (asked bytes p)) at in
+        let six = accepted-kept tableRules (asked bytes place) q table-counts in
+        let nine = accepted-kept tableRules (asked bytes place) q table-parts in
+        let counts = counts-stated (asked bytes place) six in
+        let inside = image-header-inside (asked bytes place) six nine in
         record {
           kept = q;
           at-place = sym at;
-          own = sym (ap tableOf same) ∙ ap (λ (p : ℕ). table (asked bytes p)) at;
-          few = subst (λ (u : TableHeader). u .partitions ≤ mostPartitions) same few;
+          own = own;
+          few = subst (λ (u : TableHeader). u .partitions ≤ mostPartitions) same (counts .3);
+          images =
+              record {
+                own = own;
+                few = subst (λ (u : TableHeader). u .images ≤ mostImages) same (counts .1);
+                inside = λ i h.
+                    subst (λ (p : ℕ). imageHeaderAt (asked bytes p) (i + 1) + imageHeaderSize ≤ length bytes) at
+                    (inside i (subst (λ (u : TableHeader). i < u .images) (sym same) h));
+              };
         }
 
 -- ---- the rules after the table's

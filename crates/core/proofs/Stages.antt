@@ -7,7 +7,7 @@ use mathlib.Core.Option.{Option·elim}
 use mathlib.Core.Path.{_≡_, refl, sym, _∙_, ap}
 use Rattle.pdi_spec.specs.File.{File}
 use Rattle.pdi_spec.specs.Lists.{firstOf}
-use Rattle.pdi_spec.specs.RuleList.{rule10, rule17, rule18, rule19, headerRules, partitionRules, clashRules, laterRules}
+use Rattle.pdi_spec.specs.RuleList.{rule10, rule17, rule18, rule19, rule20, headerRules, partitionRules, clashRules, imageRules, laterRules}
 use Rattle.pdi_spec.specs.Verdict.{Rule, once, Outcome, accepted, refused, verdict}
 use Rattle.pdi_spec.specs.Laws.Verdict.{andThen, verdict-append}
 use Rattle.chain_rules.specs.Answers.{answerOf}
@@ -39,15 +39,19 @@ never e q = let z : _≡_ {A = ℕ} 0 1 = cc in omega arith
 -- rules 10 to 19, stage by stage
 pub later-split : (f : File) → verdict laterRules f
     ≡ andThen (verdict (rule10 ∷ []) f)
-    (andThen (verdict headerRules f) (andThen (verdict (rule17 ∷ []) f) (andThen (verdict (rule18 ∷ []) f) (verdict (rule19 ∷ []) f))))
-unfolding laterRules partitionRules clashRules headerRules
+    (andThen (verdict headerRules f)
+    (andThen (verdict (rule17 ∷ []) f)
+    (andThen (verdict (rule18 ∷ []) f) (andThen (verdict (rule19 ∷ []) f) (verdict (rule20 ∷ []) f)))))
+unfolding laterRules partitionRules clashRules imageRules headerRules
 later-split f =
     verdict-append (rule10 ∷ []) _ f
     ∙ ap (andThen (verdict (rule10 ∷ []) f))
     (verdict-append headerRules _ f
     ∙ ap (andThen (verdict headerRules f))
     (verdict-append (rule17 ∷ []) _ f
-    ∙ ap (andThen (verdict (rule17 ∷ []) f)) (verdict-append (rule18 ∷ []) (rule19 ∷ []) f)))
+    ∙ ap (andThen (verdict (rule17 ∷ []) f))
+    (verdict-append (rule18 ∷ []) _ f
+    ∙ ap (andThen (verdict (rule18 ∷ []) f)) (verdict-append (rule19 ∷ []) (rule20 ∷ []) f))))
 
 -- ---- rules that are tried once, before them
 

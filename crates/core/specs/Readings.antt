@@ -12,6 +12,7 @@ use Rattle.chain_rules.specs.Answers.{answerOf}
 use Rattle.chain_rules.specs.Chain.{Chain, fileOf}
 use Rattle.chain_rules.specs.declared.Answer.{Answer}
 use Rattle.block_rules.specs.Blocks.{Entries}
+use Rattle.image_rules.specs.Runs.{ImagesInside}
 use Rattle.core.specs.declared.Reading.{Reading}
 
 -- The list that the core tries, of a question with its own rules of the image. Rule 2 is broken where the row buffer is short; without a
@@ -35,12 +36,14 @@ pub record PartitionsAnswer (bytes : List ℕ) (t : TableHeader) (later : List R
   pub chain : r ≡ Answer.Kept → Chain bytes t offsets
   pub entries-are : r ≡ Answer.Kept → Entries bytes t entries
 
--- what is handed on of an accepted image: its table, the billed bytes, the headers' offsets and their hash entries
+-- what is handed on of an accepted image: its table, the billed bytes, the headers' offsets and their hash entries, and that its image
+-- headers lie inside
 pub record Held (bytes : List ℕ) (place : ℕ) (t : TableHeader) (bill : ℕ) (offsets entries : List ℕ) : Type 0 where
   pub at-place : t .place ≡ place
   pub chain : Chain bytes t offsets
   pub entries-are : Entries bytes t entries
   pub billed-is : bill ≡ billed (fileOf bytes t)
+  pub images : ImagesInside bytes t
 
 -- the core's promise, for a list of rules
 pub record CoreAnswer (bytes : List ℕ) (place : ℕ) (rs : List Rule) (offsets entries : List ℕ) (r : Reading) : Type 0 where

@@ -5,6 +5,7 @@ ghost use lib.ListN.{length};
 ghost use Rattle.pdi_spec.specs.Limits.{mostPartitions};
 ghost use Rattle.pdi_spec.specs.RuleList.{laterRules, plainRules};
 ghost use Rattle.chain_rules.specs.Chain.{IsTable};
+ghost use Rattle.image_rules.specs.Runs.{ImagesInside};
 ghost use Rattle.core.specs.Readings.{CoreAnswer, PartitionsAnswer, coreRules, numberIn};
 use chain_rules::Answer;
 use headers::MOST_PARTITIONS;
@@ -22,7 +23,7 @@ pub enum Reading {
     Accepted(TableHeader, u64),
 }
 
-// Rules 10 to 19, of a table that has passed the others. Stores the headers' offsets and those of their hash entries.
+// Rules 10 to 20, of a table that has passed the others. Stores the headers' offsets and those of their hash entries.
 fn check_partitions(
     image: &[u8],
     table: TableHeader,
@@ -33,6 +34,7 @@ fn check_partitions(
     requires few { ⌜ table .partitions ≤ mostPartitions ⌝ }
     requires offsets { ⌜ length (now offsets) ≡ mostPartitions ⌝ }
     requires entries { ⌜ length (now entries) ≡ mostPartitions ⌝ }
+    requires images { ⌜ ImagesInside (now image) table ⌝ }
     ensures { λ r. ⌜ PartitionsAnswer (now (image .entry)) table laterRules (now (offsets .exit)) (now (entries .exit)) r ⌝ }
 {
     let chain = chain_rules::check_chain(image, table, offsets);
@@ -51,7 +53,11 @@ fn check_partitions(
     let Answer::Kept = stored else {
         return stored;
     };
-    clash_rules::check_loads(image, table, offsets)
+    let loads = clash_rules::check_loads(image, table, offsets);
+    let Answer::Kept = loads else {
+        return loads;
+    };
+    image_rules::check_images(image, table, offsets)
 }
 
 // The number of a refused table; a checked one has none.

@@ -7,7 +7,7 @@ use mathlib.Core.Logic.{⊎-elim}
 use mathlib.Core.Path.{_≡_, refl, sym, _∙_, ap, ap₂, subst}
 use borrow.Author.Count.{below-more}
 use borrow.Author.Tests.{ltb-false, le-ltb, le-leb, lt-leb}
-use lib.Dec.{eqb, leb, ltb}
+use lib.Dec.{eqb, ltb}
 use Rattle.pdi_spec.specs.File.{File, partitions, headerAt}
 use Rattle.pdi_spec.specs.Headers.{Table, imageHeaderSize, ImageHeader}
 use Rattle.pdi_spec.specs.Images.{images, imageHeaderAt, imageHeader, ownedUpTo, runStart}

@@ -25,7 +25,8 @@ pub starts : (f : File) (p : ℕ) → OwnedSoFar f p 0 0
 unfolding ownedUpTo
 starts f p = record { owned-is = refl; small = omega arith; none = none-yet (reaches f p) 1 }
 
-module _ (f : File) {p owned i : ℕ} (so-far : OwnedSoFar f p owned i) {count : ℕ} (count-is : count ≡ imageHeader f (i + 1) .partitions) where
+module _ (f : File) {p owned i : ℕ} (so-far : OwnedSoFar f p owned i) {count : ℕ}
+    (count-is : count ≡ imageHeader f (i + 1) .partitions) where
   owned-next : ownedUpTo f (1 + i) ≡ owned + count
   owned-next =
       ap (ownedUpTo f) {x = 1 + i} {y = i + 1} (omega arith) ∙ omega (arith, owned-more f i, so-far .owned-is, count-is)

@@ -4,7 +4,6 @@ ghost use Prim.Native.Nat.{_+_, _<_};
 ghost use mathlib.Core.List.{[], _∷_};
 ghost use mathlib.Core.Path.{_≡_};
 ghost use Rattle.pdi_spec.specs.Images.{imageHeader, ownedUpTo};
-ghost use Rattle.pdi_spec.specs.ImageRules.{imageChecksumBad};
 ghost use Rattle.pdi_spec.specs.RuleList.{rule20};
 ghost use Rattle.pdi_spec.specs.Verdict.{verdict};
 ghost use Rattle.headers.specs.Headers.{imageHeaderOf};

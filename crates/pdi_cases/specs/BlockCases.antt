@@ -78,8 +78,8 @@ entryCases =
 -- The boot header's clash is among the cases that are run (crates/bench_cases).
 unfoldable pub clashCases : List Trial
 clashCases =
-    -- optional data over the image header, an image header of 17 words over the partition header
-    breaks 18 0 (words 0x58 (4 ∷ []) ++ words 0x2C (0x00201120 ∷ []))
+    -- optional data over the image header, a second image header over the partition header
+    breaks 18 0 (words 0x58 (4 ∷ []) ++ words 0x4 (2 ∷ []))
     -- a span over the partition header, over the image header, over the table
     ++ breaks 18 0 (words (inHeader 0x20) (79 ∷ 44 ∷ 28 ∷ []))
     -- a second span over the first, the image header over the second partition header

@@ -7,12 +7,12 @@ use Rattle.pdi_spec.specs.Lists.{those}
 use Rattle.pdi_spec.specs.Verdict.{Rule, Outcome, accepted, refused, verdict}
 use Rattle.pdi_spec.specs.RuleList.{plainRules, withRows}
 use Rattle.pdi_spec.specs.Laws.Bench.{opened}
-use Rattle.pdi_cases.specs.Images.{benchWords, bytesOf, set, sealed, longer, edited, unsealed, words, tableBehind, twoPartitions}
+use Rattle.pdi_cases.specs.Images.{benchWords, bytesOf, set, sealed, allSealed, longer, edited, unsealed, words, tableBehind, twoWords, twoPartitions, twoImages}
 use Rattle.pdi_spec.specs.Answers.{answer, ifAccepted, headAndRows, asked}
 
 -- an image's length, with all definitions opened that a case computes: who opens this one opens them
 unfoldable pub computed : List ℕ → ℕ
-unfolding opened those benchWords bytesOf set sealed longer edited unsealed words tableBehind twoPartitions
+unfolding opened those benchWords bytesOf set sealed allSealed longer edited unsealed words tableBehind twoWords twoPartitions twoImages
 computed image = length image
 
 -- ---- one rule alone: an image at place 0, the rule's number, and what document 01 says. A rule computes much faster than all of them.

@@ -3,6 +3,8 @@ pub mod BootCases
 pub mod Cases
 pub mod Claims
 pub mod HeaderCases
+pub mod ImageCases
+pub mod ImageClaims
 pub mod Images
 pub mod LoadCases
 pub mod TableCases

@@ -1,11 +1,11 @@
 -- Document 01, rules 2 to 7 and 9: for each clause images that it refuses, and next to them what it takes. What is said of a case is
 -- taken from document 01. Rule 1 is in Claims.antt, rule 8 in BootCases.antt. Assumes nothing.
-use Prim.Native.Nat.{ℕ, _+_}
+use Prim.Native.Nat.{ℕ, _+_, _*_}
 use mathlib.Core.List.{List, [], _∷_, _++_}
 use lib.ListN.{take}
 use Rattle.pdi_spec.specs.Bench.{_:=_}
 use Rattle.pdi_cases.specs.Images.{longer, edited, unsealed, words, behind, behindWord, tableBehind}
-use Rattle.pdi_cases.specs.Cases.{Trial, breaks, keeps, Answered, ImageCase, at0, refusedWith, listing, rowAsGiven, asGiven}
+use Rattle.pdi_cases.specs.Cases.{Trial, breaks, keeps, Answered, ImageCase, at0, refusedWith, asGiven}
 
 -- the bench image at a place, and the image with the table behind it
 abbrev atPlace : ℕ → ℕ → Answered → ImageCase
@@ -32,11 +32,9 @@ placeCases =
     ∷ at0 (edited ((0x28 := 0x49445046) ∷ [])) (refusedWith 8 0)
     ∷ at0 (edited ((0x28 := 0x49445046) ∷ (0x58 := 2) ∷ [])) (refusedWith 6 0)
     ∷ at0 (unsealed ((0x28 := 0x49445046) ∷ [])) (refusedWith 4 0)
-    -- two image headers, and 32 of a word each, behind the bench image
-    ∷ at0 (longer 32 ((0x4 := 2) ∷ (0x8 := behindWord) ∷ [])) (listing 2 16 rowAsGiven)
-    ∷ at0 (longer 32 ((0x4 := 32) ∷ (0x2C := 0x00200120) ∷ (0x8 := behindWord) ∷ [])) (listing 32 16 rowAsGiven)
-    -- four words of optional data, and behind them an image header of 12 words
-    ∷ at0 (edited ((0x58 := 4) ∷ (0x8 := 36) ∷ (0x2C := 0x00200C20) ∷ [])) asGiven
+    -- four words of optional data over the first image header, and another one behind the bench image
+    ∷ at0 (longer 16 ((0x58 := 4) ∷ (0x8 := behindWord) ∷ (behind + 4 * 0 := 48) ∷ (behind + 4 * 1 := 1) ∷ (behind + 4 * 15 := 0x31) ∷ []))
+    asGiven
     ∷ []
 
 -- 4: "table checksum isn't the sum of its first 31 words"; "Checksum sums are modulo 2^32".
@@ -61,16 +59,17 @@ kindCases =
     ++ breaks 5 0 (words 0x28 (0x49445047 ∷ 0x49445146 ∷ 0x49455046 ∷ 0x4A445046 ∷ 0x50504449 ∷ 0 ∷ []))
     ++ keeps 5 (words 0x28 (0x49445050 ∷ 0x49445046 ∷ []))
 
--- 6: "images or partitions not 1 to 32; in 0x2C, bits 0-7 not 32, 8-15 zero, or 16-23 not 32; optional words not a multiple of 4;
--- word 0x78 not 0".
+-- 6: "images or partitions not 1 to 32; in 0x2C, bits 0-7 not 32, 8-15 [..], or 16-23 not 32; optional words not a multiple of 4;
+-- word 0x78 not 0"; document 02, CR 1, of bits 8-15: "Image header size must now be 16".
 unfoldable pub fieldCases : List Trial
 fieldCases =
     breaks 6 0 (words 0x4 (0 ∷ 33 ∷ 0x101 ∷ []))
     ++ keeps 6 (words 0x4 (1 ∷ 32 ∷ []))
     ++ breaks 6 0 (words 0xC (0 ∷ 33 ∷ 0x101 ∷ []))
     ++ keeps 6 (words 0xC (1 ∷ 32 ∷ []))
-    ++ breaks 6 0 (words 0x2C (0x0020101F ∷ 0x00201021 ∷ 0x00200020 ∷ 0x001F1020 ∷ 0x00211020 ∷ []))
-    ++ keeps 6 (words 0x2C (0x00200120 ∷ 0x0020FF20 ∷ 0xFF201020 ∷ []))
+    ++ breaks 6 0 (words 0x2C (0x0020101F ∷ 0x00201021 ∷ 0x001F1020 ∷ 0x00211020 ∷ []))
+    ++ breaks 6 0 (words 0x2C (0x00200020 ∷ 0x00200120 ∷ 0x00200F20 ∷ 0x00201120 ∷ 0x0020FF20 ∷ []))
+    ++ keeps 6 (words 0x2C (0x00201020 ∷ 0xFF201020 ∷ []))
     ++ breaks 6 0 (words 0x58 (1 ∷ 2 ∷ 3 ∷ 5 ∷ 6 ∷ 7 ∷ 0xFFFFFFFF ∷ []))
     ++ keeps 6 (words 0x58 (4 ∷ 8 ∷ 0xFFFFFFFC ∷ []))
     ++ breaks 6 0 (words 0x78 (1 ∷ 0x80000000 ∷ []))

@@ -1,11 +1,11 @@
-// The calls for C: read, bill and the length of a body, on numbers and byte slices. The row buffer lies in bytes, 8 to a number,
+// The calls for C: read, bill, the length of a body and owner, on numbers and byte slices. The row buffer lies in bytes, 8 to a number,
 // little-endian. A slice is a pointer and a length to C; include/pdi.h declares the calls.
 ghost use Prim.Native.Nat.{_*_, _≤_};
 ghost use mathlib.Core.List.{[], _∷_, flatMap};
 ghost use mathlib.Core.Path.{_≡_};
 ghost use lib.ListN.{length, take};
 ghost use lib.Seq.{sets};
-ghost use Rattle.pdi_spec.specs.Answers.{billAnswer, bodyAnswer, readAnswer};
+ghost use Rattle.pdi_spec.specs.Answers.{billAnswer, bodyAnswer, ownerAnswer, readAnswer};
 ghost use Rattle.pdi_spec.specs.Host.{hostAnswer, hostRows, leBytes};
 ghost use Rattle.pdi_spec.specs.Limits.{numberBytes};
 use rows::BUFFER;
@@ -69,4 +69,12 @@ pub extern "C" fn pdi_body_length(image: &[u8], place: u64, p: u64) -> u64
 {
     let body = reader::body(image, place as usize, p as usize);
     body.len() as u64
+}
+
+// Owner's answer.
+#[no_mangle]
+pub extern "C" fn pdi_owner(image: &[u8], place: u64, p: u64) -> u64
+    ensures { λ r. ⌜ r ≡ ownerAnswer (now (image .entry)) place p ⌝ }
+{
+    reader::owner(image, place as usize, p as usize)
 }

@@ -164,3 +164,4 @@ pub record RefusedCall (image : List ℕ) (place given : ℕ) (found left : List
   pub bills-nothing : least ≤ length found → billAnswer image place ≡ 0
   pub no-part : least ≤ length found → (p : ℕ) → bodyPart image place p ≡ emptyPart
   pub no-body : least ≤ length found → (p : ℕ) → bodyAnswer image place p ≡ []
+  pub no-owner : least ≤ length found → (p : ℕ) → ownerAnswer image place p ≡ 0

@@ -23,12 +23,17 @@ unfoldable pub put : List ℕ → List Edit → List ℕ
 put bytes [] = bytes
 put bytes (e ∷ edits) = put (take (e .at) bytes ++ (leBytes 4 (e .word) ++ drop (e .at + 4) bytes)) edits
 
--- "336 bytes, place 0. [..] Header at word 48 [..] Data: bytes 0 to 15." The header's offset in bytes, with an offset in it:
+-- "336 bytes, place 0. [..] 0x8 = 32 [..] Header at word 48 [..] Data: bytes 0 to 15." The offsets in bytes of the image header and of the
+-- partition header, with an offset in it:
+unfoldable pub inImageHeader : ℕ → ℕ
+inImageHeader offset = 4 * 32 + offset
+
 unfoldable pub inHeader : ℕ → ℕ
 inHeader offset = 4 * 48 + offset
 
--- "Table: version; images 1; 0x8 = 32; partitions 1; 0x10 = 48; `PPDI`; 0x2C = 0x00201020; checksum 0x496560C2. Image header:
--- 16 zero words. Header [..]: E = U = T = 4, load 0x00100000, D = 80, attributes 0x04000001, checksum 0x0410005D. All else 0."
+-- "Table: version; images 1; 0x8 = 32; partitions 1; 0x10 = 48; `PPDI`; 0x2C = 0x00201020; checksum 0x496560C2. [..] Header [..]: E = U =
+-- T = 4, load 0x00100000, D = 80, attributes 0x04000001, checksum 0x0410005D. All else 0." Document 02, CR 1: in the image header, "words
+-- 0, 1 and 15 become 48, 1 [..] and 0x31".
 unfoldable pub benchImage : List ℕ
 benchImage =
     put (replicate 320 0)
@@ -40,6 +45,9 @@ benchImage =
     ∷ (0x28 := 0x49445050)
     ∷ (0x2C := 0x00201020)
     ∷ (0x7C := 0x496560C2)
+    ∷ (inImageHeader (4 * 0) := 48)
+    ∷ (inImageHeader (4 * 1) := 1)
+    ∷ (inImageHeader (4 * 15) := 0x31)
     ∷ (inHeader 0x0 := 4)
     ∷ (inHeader 0x4 := 4)
     ∷ (inHeader 0x8 := 4)
@@ -50,13 +58,13 @@ benchImage =
     ∷ [])
     ++ numbers 0 16
 
--- the checksum word of 31 words at a byte offset
-unfoldable pub righted : List ℕ → ℕ → List ℕ
-righted bytes at = put bytes ((at + 0x7C := checksum bytes at 31) ∷ [])
+-- the checksum put right behind a run of n words at a byte offset
+unfoldable pub righted : List ℕ → ℕ → ℕ → List ℕ
+righted bytes at n = put bytes ((at + 4 * n := checksum bytes at n) ∷ [])
 
 -- "checksums are put right after each edit"
 unfoldable pub edited : List Edit → List ℕ
-edited edits = righted (righted (put benchImage edits) 0) (inHeader 0)
+edited edits = righted (righted (righted (put benchImage edits) 0 31) (inImageHeader 0) 15) (inHeader 0) 31
 
 -- what is seen of a case: read's answer, the numbers that it writes, and the bill
 pub record Seen : Type 0 where

@@ -10,11 +10,14 @@ pub mod Envelope
 pub mod Firsts
 pub mod HashBlock
 pub mod HostNumbers
+pub mod ImageVerdict
 pub mod Images
 pub mod Inside
 pub mod Kept
 pub mod Lists
 pub mod Loading
+pub mod Owners
+pub mod Partitions
 pub mod Plain
 pub mod Questions
 pub mod Refusals

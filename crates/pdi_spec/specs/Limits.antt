@@ -44,6 +44,6 @@ bufferBytes = numberBytes * bufferNumbers
 abbrev pub answerUnit : ℕ
 answerUnit = 64
 
--- "Rules by number": plain reading's last number
+-- "Rules by number", and document 02, CR 1: plain reading's last number
 abbrev pub lastRule : ℕ
-lastRule = 19
+lastRule = 20

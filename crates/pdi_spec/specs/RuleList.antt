@@ -110,11 +110,15 @@ readingRules = tableRules ++ partitionRules
 unfoldable pub clashRules : List Rule
 clashRules = rule18 ∷ rule19 ∷ []
 
--- all that come after the table's: 10 to 19
-unfoldable pub laterRules : List Rule
-laterRules = partitionRules ++ clashRules
+-- of the image headers
+unfoldable pub imageRules : List Rule
+imageRules = rule20 ∷ []
 
--- plain reading's rules of the image itself: 3 to 19
+-- all that come after the table's: 10 to 20
+unfoldable pub laterRules : List Rule
+laterRules = partitionRules ++ (clashRules ++ imageRules)
+
+-- plain reading's rules of the image itself: 3 to 20
 unfoldable pub plainRules : List Rule
 plainRules = tableRules ++ laterRules
 

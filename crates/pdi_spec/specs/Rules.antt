@@ -1,5 +1,6 @@
 -- Document 01, "Rules by number": each rule's condition, "Broken when", under its table row or its paragraph. A condition that looks at
--- one header alone is stated of that header. The lists that gather the rules are in RuleList.antt. Assumes nothing.
+-- one header alone is stated of that header. Rule 20 is in ImageRules.antt; the lists that gather the rules are in RuleList.antt. Assumes
+-- nothing.
 use Prim.Native.Nat.{ℕ, _*_, _-_, _%_}
 use mathlib.Core.Bool.{Bool, cond, not, _&&_, _||_}
 use mathlib.Core.List.{List, [], _∷_, _++_}
@@ -9,7 +10,7 @@ use Rattle.pdi_spec.specs.Limits.{longestImage, mostImages, mostPartitio
 use Rattle.pdi_spec.specs.Lists.{numbers, anyTrue, anyOf, anyPair, isIn}
 use Rattle.pdi_spec.specs.Words.{checksum, bootChecksum}
 use Rattle.pdi_spec.specs.Keys.{zeroOrCommon, zeroCommonOrUser}
-use Rattle.pdi_spec.specs.Headers.{headerWords, Block, Table, tableWordsOf, imageHeaderWordsOf, partitionHeaderWordsOf, Header, Boot, bootSize, bootFrom}
+use Rattle.pdi_spec.specs.Headers.{headerWords, imageHeaderWords, Block, Table, tableWordsOf, imageHeaderWordsOf, partitionHeaderWordsOf, Header, Boot, bootSize, bootFrom}
 use Rattle.pdi_spec.specs.Attributes.{clusterOf, dpaOf, typeOf, reservedOf, tcmFlagOf, ownerOf, checksumTypeOf, cpuOf, lockstepOf, hasLoadAddress}
 use Rattle.pdi_spec.specs.File.{File, table, isFull, partitions, header, hashBlock}
 use Rattle.pdi_spec.specs.HashBlock.{digestSize, noBlock, sizeOfEntries, entriesIn, ownEntries}
@@ -39,15 +40,15 @@ tableChecksumWrong f = not (eqb (table f .checksum) (checksum (f .bytes) (f .pla
 unfoldable pub kindUnknown : Table → Bool
 kindUnknown t = not (eqb (t .version) 0x00010000) || eqb (t .kind) 0
 
--- 6: "images or partitions not 1 to 32; in 0x2C, bits 0-7 not 32, 8-15 zero, or 16-23 not 32; optional words not a multiple
--- of 4; word 0x78 not 0"
+-- 6: "images or partitions not 1 to 32; in 0x2C, bits 0-7 not 32, 8-15 [..], or 16-23 not 32; optional words not a multiple of 4; word
+-- 0x78 not 0"; document 02, CR 1, of bits 8-15: "Image header size must now be 16, under rule 6."
 unfoldable pub tableFieldsBad : Table → Bool
 tableFieldsBad t =
     anyTrue
     (notFrom 1 mostImages (t .images)
     ∷ notFrom 1 mostPartitions (t .partitions)
     ∷ not (eqb (tableWordsOf (t .headerSizes)) headerWords)
-    ∷ eqb (imageHeaderWordsOf (t .headerSizes)) 0
+    ∷ not (eqb (imageHeaderWordsOf (t .headerSizes)) imageHeaderWords)
     ∷ not (eqb (partitionHeaderWordsOf (t .headerSizes)) headerWords)
     ∷ not (eqb (t .optionalWords % 4) 0)
     ∷ not (eqb (t .reserved) 0)

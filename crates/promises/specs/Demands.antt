@@ -4,50 +4,54 @@
 -- where its numbers are read back from eight bytes.
 use Prim.Native.Nat.{ℕ, _+_, _*_, _-_, _/_, _%_, _^_, _≤_, _<_}
 use mathlib.Core.Bool.{true, false, cond}
-use mathlib.Core.List.{List, [], _∷_, map, List·Mem, List·Nodup, Pairwise, Perm}
+use mathlib.Core.List.{List, [], _∷_, _++_, map, List·Mem, List·Nodup, Pairwise, Perm}
 use mathlib.Core.Logic.{_↔_, _⊎_}
 use mathlib.Core.Path.{_≡_}
 use lib.ListN.{length, take, drop, getD}
-use Rattle.pdi_spec.specs.Answers.{hashEntry, asked, emptyPart, readAnswer, readRows, billAnswer, bodyPart, bodyAnswer}
+use Rattle.pdi_spec.specs.Answers.{hashEntry, asked, emptyPart, readAnswer, readRows, billAnswer, bodyPart, bodyAnswer, ownerAnswer}
 use Rattle.pdi_spec.specs.Bench.{Case, seen, starred}
 use Rattle.pdi_spec.specs.File.{File, table, partitions, partitionNumbers, header, hashBlock}
 use Rattle.pdi_spec.specs.HashBlock.{noBlock, entriesIn}
 use Rattle.pdi_spec.specs.Host.{hostNumbers, hostAnswer, hostRows}
+use Rattle.pdi_spec.specs.ImageRules.{OwnRuns}
 use Rattle.pdi_spec.specs.Lists.{numbers, sumOf}
 use Rattle.pdi_spec.specs.Loading.{Memory, Feed, target, load, Whole, addressesWritten, Loaded}
 use Rattle.pdi_spec.specs.Ranges.{loadsTo}
-use Rattle.pdi_spec.specs.RuleList.{readingRules, plainRules, withRows, withHostRows}
+use Rattle.pdi_spec.specs.RuleList.{readingRules, clashRules, plainRules, withRows, withHostRows}
 use Rattle.pdi_spec.specs.Rules.{imageTooLong}
 use Rattle.pdi_spec.specs.Stated.{Stated, byRows, loadable, inSpans}
 use Rattle.pdi_spec.specs.Twice.{PositionTwice, AddressTwice, SmallestMeeting}
 use Rattle.pdi_spec.specs.Verdict.{Rule, Keeps, FirstRefusal}
 use Rattle.pdi_spec.specs.Words.{wordAt}
 use Rattle.pdi_spec.specs.Claims
+use Rattle.promises.specs.Owners.{Owners}
 
 -- Demand 1: "a refusal changes nothing".
 pub record Refusals : Type 0 where
-  -- A refused read has a number from 1 to 19 and a p of at most 32, and leaves every number of the row buffer as found.
+  -- A refused read has a number from 1 to 20 and a p of at most 32, and leaves every number of the row buffer as found.
   pub read-refused : (image : List ℕ) (place : ℕ) (rows : List ℕ) → (readAnswer image place rows ≡ 0 → ⊥)
       → (1 ≤ readAnswer image place rows / 64)
-      × (readAnswer image place rows / 64 ≤ 19)
+      × (readAnswer image place rows / 64 ≤ 20)
       × (readAnswer image place rows % 64 ≤ 32)
       × (readRows image place rows ≡ rows)
-  -- Where its buffer serves, the bill is then 0 and every body empty.
+  -- Where its buffer serves, the bill is then 0, every body empty, and no partition has an owner.
   pub others-refused : (image : List ℕ) (place : ℕ) (rows : List ℕ) → (readAnswer image place rows ≡ 0 → ⊥) → 260 ≤ length rows
-      → (billAnswer image place ≡ 0) × ((p : ℕ) → (bodyPart image place p ≡ emptyPart) × (bodyAnswer image place p ≡ []))
+      → (billAnswer image place ≡ 0) × ((p : ℕ)
+      → (bodyPart image place p ≡ emptyPart) × (bodyAnswer image place p ≡ []) × (ownerAnswer image place p ≡ 0))
   -- So it is of the host's read, which leaves every byte of its row buffer.
   pub host-refused : (image : List ℕ) (place : ℕ) (bytes : List ℕ) → (hostAnswer image place bytes ≡ 0 → ⊥)
       → (1 ≤ hostAnswer image place bytes / 64)
-      × (hostAnswer image place bytes / 64 ≤ 19)
+      × (hostAnswer image place bytes / 64 ≤ 20)
       × (hostAnswer image place bytes % 64 ≤ 32)
       × (hostRows image place bytes ≡ bytes)
   pub host-others-refused : (image : List ℕ) (place : ℕ) (bytes : List ℕ) → (hostAnswer image place bytes ≡ 0 → ⊥) → 2080 ≤ length bytes
-      → (billAnswer image place ≡ 0) × ((p : ℕ) → (bodyPart image place p ≡ emptyPart) × (bodyAnswer image place p ≡ []))
+      → (billAnswer image place ≡ 0) × ((p : ℕ)
+      → (bodyPart image place p ≡ emptyPart) × (bodyAnswer image place p ≡ []) × (ownerAnswer image place p ≡ 0))
 
 -- Demand 2: "an image is accepted exactly when it keeps the rules".
 pub record Acceptance : Type 0 where
-  -- Read's rules are numbered 1 to 19, in that order, and each is tried in ascending order of p.
-  pub numbered : (n : ℕ) → map (λ (r : Rule). r .number) (withRows n plainRules) ≡ numbers 1 19
+  -- Read's rules are numbered 1 to 20, in that order, and each is tried in ascending order of p.
+  pub numbered : (n : ℕ) → map (λ (r : Rule). r .number) (withRows n plainRules) ≡ numbers 1 20
   pub ascending : (n : ℕ) (f : File) (r : Rule) → List·Mem r (withRows n plainRules) → Pairwise (λ (a b : ℕ). a < b) (r .tried f)
   -- Accepted exactly when every rule is kept.
   pub accepts : (image : List ℕ) (place : ℕ) (rows : List ℕ)
@@ -60,6 +64,10 @@ pub record Acceptance : Type 0 where
       → ((readAnswer image place rows ≡ 64 * 18) ↔ PositionTwice (asked image place))
       × ((readAnswer image place rows / 64 ≡ 19) ↔ ((PositionTwice (asked image place) → ⊥) × AddressTwice (asked image place)))
       × (readAnswer image place rows / 64 ≡ 19 → SmallestMeeting (asked image place) (readAnswer image place rows % 64))
+  -- With rules 1 to 19 kept, 20 exactly when the images don't own runs of the chain.
+  pub image-runs : (image : List ℕ) (place : ℕ) (rows : List ℕ)
+      → Keeps (withRows (length rows) (readingRules ++ clashRules)) (asked image place)
+      → (readAnswer image place rows ≡ 64 * 20) ↔ (OwnRuns (asked image place) → ⊥)
   -- A buffer that is too short gives number 1 for an image that is too long, and else 2.
   pub short : (image : List ℕ) (place : ℕ) (rows : List ℕ) → length rows < 260
       → readAnswer image place rows ≡ 64 * cond (imageTooLong (asked image place)) 1 2
@@ -73,7 +81,7 @@ pub record Acceptance : Type 0 where
       → hostAnswer image place bytes ≡ readAnswer image place (hostNumbers bytes)
   pub host-beside-read : (image : List ℕ) (place : ℕ) (bytes rows : List ℕ) → ((260 ≤ length rows) ↔ (2080 ≤ length bytes))
       → hostAnswer image place bytes ≡ readAnswer image place rows
-  -- It refuses by the lowest broken number too, and what is claimed twice by 18 and 19.
+  -- It refuses by the lowest broken number too, what is claimed twice by 18 and 19, and images without their runs by 20.
   pub host-refuses : (image : List ℕ) (place : ℕ) (bytes : List ℕ) (k p : ℕ) → 1 ≤ k → p < 64
       → (hostAnswer image place bytes ≡ 64 * k + p) ↔ FirstRefusal (withHostRows (length bytes) plainRules) (asked image place) k p
   pub host-claimed-twice : (image : List ℕ) (place : ℕ) (bytes : List ℕ)
@@ -81,6 +89,9 @@ pub record Acceptance : Type 0 where
       → ((hostAnswer image place bytes ≡ 64 * 18) ↔ PositionTwice (asked image place))
       × ((hostAnswer image place bytes / 64 ≡ 19) ↔ ((PositionTwice (asked image place) → ⊥) × AddressTwice (asked image place)))
       × (hostAnswer image place bytes / 64 ≡ 19 → SmallestMeeting (asked image place) (hostAnswer image place bytes % 64))
+  pub host-image-runs : (image : List ℕ) (place : ℕ) (bytes : List ℕ)
+      → Keeps (withHostRows (length bytes) (readingRules ++ clashRules)) (asked image place)
+      → (hostAnswer image place bytes ≡ 64 * 20) ↔ (OwnRuns (asked image place) → ⊥)
   -- Document 01's starred cases, 16 of them, answer, write and bill as it says.
   pub cases : (length starred ≡ 16) × (map seen starred ≡ map (λ (c : Case). c .says) starred)
 
@@ -184,5 +195,6 @@ pub record Demands : Type 0 where
   pub refusals : Refusals
   pub acceptance : Acceptance
   pub statements : Statements
+  pub owners : Owners
   pub loading : Loading
   pub counting : Counting

@@ -6,15 +6,18 @@ use lib.ListN.{length}
 use Rattle.pdi_spec.specs.Answers.{asked, billed, cut, rowsBy, bodyBy, readAnswer}
 use Rattle.pdi_spec.specs.Bench.{starred}
 use Rattle.pdi_spec.specs.Envelope.{envelopeHead}
+use Rattle.pdi_spec.specs.Headers.{imageHeaderFrom}
+use Rattle.pdi_spec.specs.Images.{images, imageHeaderAt, imageHeader}
 use Rattle.pdi_spec.specs.Lists.{firstOf}
 use Rattle.pdi_spec.specs.Ranges.{Range, body, addressSpace}
-use Rattle.pdi_spec.specs.RuleList.{rule17, tableRules, headerRules, partitionRules, clashRules, laterRules, plainRules, withBuffer, withRows}
+use Rattle.pdi_spec.specs.RuleList.{rule17, tableRules, headerRules, partitionRules, clashRules, imageRules, laterRules, plainRules, withBuffer, withRows}
 use Rattle.pdi_spec.specs.Verdict.{once, each, eachAndTable, accepted, verdict, Kept, Keeps}
 use Rattle.pdi_spec.specs.Laws.Kept.{by-number}
 use Rattle.pdi_spec.specs.Claims
 use Rattle.listing.specs.Claims as ListingClaims
 use Rattle.listing.specs.Printed.{envelopeText, longestInput}
 use Rattle.promises.specs.Demands.{Refusals, Acceptance, Statements, Loading, Counting, Demands}
+use Rattle.promises.specs.Owners.{Owners}
 use Rattle.promises.specs.Printing.{Decimals, Printing}
 
 refusals : Refusals
@@ -25,13 +28,13 @@ refusals =
           (t .from-1, t .to-last, t .small-p, t .as-found);
       others-refused = λ image place rows n h.
           let t = Claims.Answers.read-refusal image place rows n in
-          (t .bills-nothing h, λ p. (t .no-part h p, t .no-body h p));
+          (t .bills-nothing h, λ p. (t .no-part h p, t .no-body h p, t .no-owner h p));
       host-refused = λ image place bytes n.
           let t = Claims.Answers.host-refusal image place bytes n in
           (t .from-1, t .to-last, t .small-p, t .as-found);
       host-others-refused = λ image place bytes n h.
           let t = Claims.Answers.host-refusal image place bytes n in
-          (t .bills-nothing h, λ p. (t .no-part h p, t .no-body h p));
+          (t .bills-nothing h, λ p. (t .no-part h p, t .no-body h p, t .no-owner h p));
     }
 
 acceptance : Acceptance
@@ -45,6 +48,7 @@ acceptance =
       claimed-twice = λ image place rows k.
           let t = Claims.Answers.read-twice image place rows k in
           (t .stored, t .loaded, t .smallest-p);
+      image-runs = Claims.Owners.read-runs;
       short = Claims.Answers.read-short;
       host-short = Claims.Answers.host-short;
       host-accepts = Claims.Answers.host-accepted-exactly;
@@ -54,6 +58,7 @@ acceptance =
       host-claimed-twice = λ image place bytes k.
           let t = Claims.Answers.host-twice image place bytes k in
           (t .stored, t .loaded, t .smallest-p);
+      host-image-runs = Claims.Owners.host-runs;
       cases = (refl, Claims.Cases.starred-cases);
     }
 
@@ -65,7 +70,8 @@ verdict-is image place rows e =
 
 -- rule 17 is kept, as one of them
 blocks-kept : (image : List ℕ) (place : ℕ) (rows : List ℕ) → readAnswer image place rows ≡ 0 → Kept rule17 (asked image place)
-unfolding withRows withBuffer plainRules tableRules laterRules partitionRules headerRules clashRules firstOf once each eachAndTable Keeps
+unfolding withRows withBuffer plainRules tableRules laterRules partitionRules headerRules clashRules imageRules firstOf
+    once each eachAndTable Keeps
 blocks-kept image place rows e =
     Claims.Answers.read-accepted-exactly image place rows .0 e rule17
     (mem-cons-of-mem _ (mem-cons-of-mem _ (by-number 17 plainRules refl)))
@@ -88,6 +94,23 @@ statements =
           (ap (λ (r : Range). r .start) (t .0), t .1, long);
       no-body = λ image place p. Claims.Rows.no-such-body _ (asked image place) p;
       host-rows = Claims.Answers.host-leaves-reads;
+    }
+
+owners : Owners
+unfolding images imageHeader imageHeaderAt imageHeaderFrom
+owners =
+    record {
+      none = λ image place rows. Claims.Owners.owner-zero image place rows;
+      runs = λ image place rows e i p l.
+          let t = Claims.Owners.owner-exactly image place rows e i p l in (
+            λ o. let r = t .0 o in (r .listed, r .after, r .within),
+            λ r. t .1 (record { counted = l; listed = r .0; after = r .1; within = r .2 }),
+          );
+      counts = Claims.Owners.owned-sum;
+      one = Claims.Owners.one-owner;
+      ascending = Claims.Owners.owners-ascend;
+      owned = Claims.Owners.owns-count;
+      first = Claims.Owners.owns-first;
     }
 
 loading : Loading
@@ -115,7 +138,14 @@ counting =
 
 pub demands : Demands
 demands =
-    record { refusals = refusals; acceptance = acceptance; statements = statements; loading = loading; counting = counting }
+    record {
+      refusals = refusals;
+      acceptance = acceptance;
+      statements = statements;
+      owners = owners;
+      loading = loading;
+      counting = counting;
+    }
 
 -- ---- the program
 

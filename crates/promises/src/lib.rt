@@ -5,7 +5,7 @@
 ghost use Prim.Native.Nat.{_+_, min};
 ghost use mathlib.Core.Path.{_≡_};
 ghost use lib.ListN.{length, drop};
-ghost use Rattle.pdi_spec.specs.Answers.{readAnswer, readRows, billAnswer, bodyPart, bodyAnswer};
+ghost use Rattle.pdi_spec.specs.Answers.{readAnswer, readRows, billAnswer, bodyPart, bodyAnswer, ownerAnswer};
 ghost use Rattle.pdi_spec.specs.Envelope.{envelope, envelopeHead};
 ghost use Rattle.pdi_spec.specs.Host.{hostAnswer, hostRows};
 ghost use Rattle.envelope.specs.Opened.{openedAs};
@@ -36,6 +36,13 @@ pub fn body<'a>(image: &'a [u8], place: usize, p: usize) -> &'a [u8]
     reader::body(image, place, p)
 }
 
+// Owner: the answer, for any image, place and p.
+pub fn owner(image: &[u8], place: usize, p: usize) -> u64
+    ensures { λ r. ⌜ r ≡ ownerAnswer (now (image .entry)) place p ⌝ }
+{
+    reader::owner(image, place, p)
+}
+
 // The host's read: the answer, and all bytes of the row buffer.
 pub fn host_read(image: &[u8], place: u64, rows: &mut [u8]) -> u64
     ensures answers { λ r. ⌜ r ≡ hostAnswer (now (image .entry)) place (now (rows .entry)) ⌝ }
@@ -56,6 +63,13 @@ pub fn host_body_length(image: &[u8], place: u64, p: u64) -> u64
     ensures { λ r. ⌜ r ≡ length (bodyAnswer (now (image .entry)) place p) ⌝ }
 {
     pdi_host::pdi_body_length(image, place, p)
+}
+
+// The host's owner.
+pub fn host_owner(image: &[u8], place: u64, p: u64) -> u64
+    ensures { λ r. ⌜ r ≡ ownerAnswer (now (image .entry)) place p ⌝ }
+{
+    pdi_host::pdi_owner(image, place, p)
 }
 
 // What the program prints for an input: how many bytes, and all of the buffer.

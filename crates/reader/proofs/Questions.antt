@@ -7,9 +7,10 @@ use mathlib.Core.Logic.{_⊎_, inl, inr}
 use mathlib.Core.Path.{_≡_, refl, sym, _∙_, ap}
 use lib.Dec.{ltb}
 use lib.ListN.{length, take, drop}
-use Rattle.pdi_spec.specs.Answers.{asked, answer, billed, readBy, rowsBy, billBy, partBy, bodyBy, emptyPart, bodyUnder, cut}
+use Rattle.pdi_spec.specs.Answers.{asked, answer, billed, readBy, rowsBy, billBy, partBy, bodyBy, ownerBy, emptyPart, bodyUnder, cut}
 use Rattle.pdi_spec.specs.File.{File, partitions, header}
 use Rattle.pdi_spec.specs.Headers.{Header}
+use Rattle.pdi_spec.specs.Images.{ownerImage}
 use Rattle.pdi_spec.specs.Limits.{bufferNumbers, headWidth, rowWidth}
 use Rattle.pdi_spec.specs.Ranges.{Range, body, bodyOf}
 use Rattle.pdi_spec.specs.RuleList.{rule1, withoutBuffer, withBuffer, withRows}
@@ -18,6 +19,7 @@ use Rattle.pdi_spec.specs.Supported.{Supported}
 use Rattle.pdi_spec.specs.Verdict.{Rule, once, accepted, refused, verdict}
 use Rattle.pdi_spec.specs.Laws.Answers.{bill-accepted, bill-refused, part-accepted, part-none, part-refused}
 use Rattle.pdi_spec.specs.Laws.Kept.{lengths-stated, span-stated}
+use Rattle.pdi_spec.specs.Laws.Owners.{owner-refused, owner-none, owner-accepted}
 use Rattle.pdi_spec.specs.Laws.Refusals.{buffer-accepts, refusal-below, refusal-p}
 use Rattle.pdi_spec.specs.Laws.Rows.{after-accepted, after-refused}
 use Rattle.pdi_spec.specs.Laws.Verdict.{accepted-kept, verdict-after}
@@ -64,6 +66,10 @@ module _ {own : List Rule} (s : Supported own) (bytes : List ℕ) (place : ℕ) 
   unfolding partBy
   refused-part {k} {p} e q = part-refused (withoutBuffer own) f k p (refused-is e) q
 
+  pub refused-owner : {k p : ℕ} → r ≡ Reading.Refused k p → (q : ℕ) → 0 ≡ ownerBy own bytes place q
+  unfolding ownerBy
+  refused-owner {k} {p} e q = sym (owner-refused (withoutBuffer own) f k p (refused-is e) q)
+
   module _ {t : TableHeader} {bill : ℕ} (e : r ≡ Reading.Accepted t bill) where
     abbrev held : Held bytes place t bill offsets entries
     held = told .held t bill e
@@ -78,13 +84,25 @@ module _ {own : List Rule} (s : Supported own) (bytes : List ℕ) (place : ℕ) 
     unfolding billBy
     accepted-bill = held .billed-is ∙ ap billed same-file ∙ sym (bill-accepted (withoutBuffer own) f (accepted-is e))
 
+    -- a p that isn't 1 to N
+    other : (p : ℕ) → (p < 1) ⊎ (t .partitions < p) → (p < 1) ⊎ (partitions f < p)
+    other p (inl l) = inl l
+    other p (inr l) = inr (omega (arith, count-is))
+
     pub no-part : (p : ℕ) → (p < 1) ⊎ (t .partitions < p) → partBy own bytes place p ≡ emptyPart
     unfolding partBy
-    no-part p h = part-none (withoutBuffer own) f p (go h)
-      where
-        go : (p < 1) ⊎ (t .partitions < p) → (p < 1) ⊎ (partitions f < p)
-        go (inl l) = inl l
-        go (inr l) = inr (omega (arith, count-is))
+    no-part p h = part-none (withoutBuffer own) f p (other p h)
+
+    pub no-owner : (p : ℕ) → (p < 1) ⊎ (t .partitions < p) → 0 ≡ ownerBy own bytes place p
+    unfolding ownerBy
+    no-owner p h = sym (owner-none (withoutBuffer own) f p (other p h))
+
+    pub owner-told : (p : ℕ) → 1 ≤ p → p ≤ t .partitions → {o : ℕ} → o ≡ ownerImage (fileOf bytes t) p → o ≡ ownerBy own bytes place p
+    unfolding ownerBy
+    owner-told p low high e′ =
+        e′
+        ∙ ap (λ (g : File). ownerImage g p) same-file
+        ∙ sym (owner-accepted (withoutBuffer own) f (accepted-is e) p low (omega (arith, count-is)))
 
     -- a partition from 1 to N, its header, as it was read, and the range of its body
     module _ (p : ℕ) (low : 1 ≤ p) (high : p ≤ t .partitions) {h : Header} (read : h ≡ header (fileOf bytes t) (p - 1 + 1))

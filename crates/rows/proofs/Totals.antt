@@ -1,21 +1,15 @@
 -- The sum of the total lengths of a file's first partitions. Assumes nothing.
 use Prim.Native.Nat.{ℕ, _+_, _*_}
-use native.Mathlib.Numerals.{add-one}
 use native.Mathlib.Omega.{arith}
-use mathlib.Core.List.{List, [], _∷_, _++_, map, map-append}
+use mathlib.Core.List.{map}
 use mathlib.Core.Path.{_≡_, refl, _∙_, ap}
 use Rattle.pdi_spec.specs.Answers.{billed}
 use Rattle.pdi_spec.specs.File.{File, partitions, partitionNumbers, header}
 use Rattle.pdi_spec.specs.Lists.{numbers, sumOf}
-use Rattle.pdi_spec.specs.Laws.Lists.{numbers-more}
+use Rattle.pdi_spec.specs.Laws.Lists.{sum-more}
 
 unfoldable pub totals : File → ℕ → ℕ
 totals f n = sumOf (map (λ (p : ℕ). header f p .total) (numbers 1 n))
-
-sum-then : (xs : List ℕ) (y : ℕ) → sumOf (xs ++ (y ∷ [])) ≡ sumOf xs + y
-unfolding sumOf
-sum-then [] y = omega arith
-sum-then (x ∷ xs) y = omega (arith, sum-then xs y)
 
 pub totals-none : (f : File) → totals f 0 ≡ 0
 unfolding totals numbers sumOf
@@ -24,9 +18,7 @@ totals-none f = refl
 pub totals-more : (f : File) (i : ℕ) → totals f (i + 1) ≡ totals f i + header f (i + 1) .total
 unfolding totals
 totals-more f i =
-    ap (λ (ps : List ℕ). sumOf (map (λ (p : ℕ). header f p .total) ps)) (ap (numbers 1) (add-one i) ∙ numbers-more 1 i)
-    ∙ ap sumOf (map-append (λ (p : ℕ). header f p .total) (numbers 1 i) ((1 + i) ∷ []))
-    ∙ sum-then (map (λ (p : ℕ). header f p .total) (numbers 1 i)) (header f (1 + i) .total)
+    sum-more (λ (p : ℕ). header f p .total) 1 i
     ∙ ap (λ (p : ℕ). sumOf (map (λ (q : ℕ). header f q .total) (numbers 1 i)) + header f p .total) {x = 1 + i} {y = i + 1} (omega arith)
 
 pub totals-all : (f : File) {n : ℕ} → n ≡ partitions f → 4 * totals f n ≡ billed f

@@ -11,6 +11,7 @@ ghost use Rattle.pdi_spec.specs.Rules.{bootHeaderBad, imageHeadersOutside, kind
 ghost use Rattle.pdi_spec.specs.Words.{checksum};
 ghost use Rattle.headers.specs.Headers.{bootOf, tableOf};
 use headers::BootHeader;
+use headers::ImageHeader;
 use headers::MOST_IMAGES;
 use headers::MOST_PARTITIONS;
 use headers::TableHeader;
@@ -57,7 +58,7 @@ pub(crate) fn table_fields_bad(t: TableHeader) -> bool
     not_from(1, MOST_IMAGES, t.images)
         | not_from(1, MOST_PARTITIONS as u32, t.partitions)
         | (sizes.table_words() != TableHeader::WORDS)
-        | (sizes.image_header_words() == 0)
+        | (sizes.image_header_words() != ImageHeader::WORDS)
         | (sizes.partition_header_words() != TableHeader::WORDS)
         | (t.optional_words % 4 != 0)
         | (t.reserved != 0)

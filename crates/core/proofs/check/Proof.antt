@@ -63,7 +63,7 @@ check-partitions-requires : tie.Need-check-partitions-requires
 check-partitions-requires c κs =
     let k = checked (c .before .before .before) in
     let s = c .before .before .before .before .before .before .before .before .before in
-    (k .own, (k .few, s .pre))
+    (k .own, (k .few, (s .pre .0, (s .pre .1, k .images))))
 
 billed-requires : tie.Need-billed-requires
 billed-requires c κs = c .before .before .before .check-partitions .ensures .chain (c .before .enum-told2 .given .1)
@@ -75,7 +75,13 @@ returns-4 c =
     let first = c .before .before .before .before .before .before .before .before in
     let k = checked first in
     accepted-told (all-kept _ _ laterRules k (p .told) kept ∙ left first)
-    (record { at-place = k .at-place; chain = p .chain kept; entries-are = p .entries-are kept; billed-is = c .billed .ensures })
+    (record {
+      at-place = k .at-place;
+      chain = p .chain kept;
+      entries-are = p .entries-are kept;
+      billed-is = c .billed .ensures;
+      images = k .images;
+    })
 
 returns-5 : tie.Need-returns-5
 returns-5 c =

@@ -5,7 +5,7 @@ use Prim.Native.Nat.{ℕ}
 use mathlib.Core.List.{List, [], _∷_}
 use mathlib.Core.Path.{_≡_, sym, _∙_, ap}
 use Rattle.pdi_spec.specs.File.{File}
-use Rattle.pdi_spec.specs.RuleList.{rule10, rule17, rule18, rule19, headerRules, laterRules}
+use Rattle.pdi_spec.specs.RuleList.{rule10, rule17, rule18, rule19, rule20, headerRules, laterRules}
 use Rattle.pdi_spec.specs.Verdict.{Outcome, verdict}
 use Rattle.pdi_spec.specs.Laws.Verdict.{andThen}
 use Rattle.headers.specs.declared.table.TableHeader.{TableHeader}
@@ -20,9 +20,12 @@ use Rattle.core.proofs.check_partitions.Tie as tie
 abbrev file-of : tie.Start → File
 file-of s = fileOf (s .args .image .now) (s .args .table)
 
--- what is left of rules 10 to 19 after the first stages
+-- what is left of rules 10 to 20 after the first stages
+abbrev from-20 : File → Outcome
+from-20 f = verdict (rule20 ∷ []) f
+
 abbrev from-19 : File → Outcome
-from-19 f = verdict (rule19 ∷ []) f
+from-19 f = andThen (verdict (rule19 ∷ []) f) (from-20 f)
 
 abbrev from-18 : File → Outcome
 from-18 f = andThen (verdict (rule18 ∷ []) f) (from-19 f)
@@ -53,6 +56,9 @@ entry-17 c = entry-11 (c .before .before .before .before .before)
 abbrev entry-18 : tie.After-enum-told7 → tie.Start
 entry-18 c = entry-17 (c .before .before .before .before)
 
+abbrev entry-19 : tie.After-enum-told9 → tie.Start
+entry-19 c = entry-18 (c .before .before .before .before)
+
 left-11 : (c : tie.After-enum-told) → Left (entry-10 c) (from-11 (file-of (entry-10 c)))
 left-11 c = goes-on _ _ (c .before .before .check-chain .ensures .told) (c .enum-told .given .1) ∙ whole (entry-10 c)
 
@@ -66,6 +72,9 @@ left-18 c =
 
 left-19 : (c : tie.After-enum-told7) → Left (entry-18 c) (from-19 (file-of (entry-18 c)))
 left-19 c = goes-on _ _ (c .before .before .check-stored .ensures) (c .enum-told7 .given .1) ∙ left-18 (c .before .before .before .before)
+
+left-20 : (c : tie.After-enum-told9) → Left (entry-19 c) (from-20 (file-of (entry-19 c)))
+left-20 c = goes-on _ _ (c .before .before .check-loads .ensures) (c .enum-told9 .given .1) ∙ left-19 (c .before .before .before .before)
 
 -- a refusal hands nothing on
 refusal : {bytes : List ℕ} {t : TableHeader} {offsets entries : List ℕ} {r : Answer} {k p : ℕ} → r ≡ Answer.Refused k p
@@ -89,7 +98,7 @@ returns-2 c =
 check-blocks-requires : tie.Need-check-blocks-requires
 check-blocks-requires c κs =
     let d = c .before .before .before .before .before .before in
-    (d .before .before .check-chain .ensures .chain (d .enum-told .given .1), d .before .before .before .before .before .pre .1 .1 .1)
+    (d .before .before .check-chain .ensures .chain (d .enum-told .given .1), d .before .before .before .before .before .pre .1 .1 .1 .0)
 
 returns-3 : tie.Need-returns-3
 returns-3 c =
@@ -109,16 +118,28 @@ returns-4 c =
 
 check-loads-requires : tie.Need-check-loads-requires
 check-loads-requires c κs =
-    let d = c .before .before .before .before .before .before .before .before .before .before .before .before .before .before in
-    d .before .before .check-chain .ensures .chain (d .enum-told .given .1)
+    let d1 = c .before .before .before .before .before .before .before .before .before .before .before .before .before .before in
+    d1 .before .before .check-chain .ensures .chain (d1 .enum-told .given .1)
 
 returns-5 : tie.Need-returns-5
 returns-5 c =
-    let d7 = c .before .before in
+    let e = c .enum-told10 .given .1 in
+    refusal e (stops _ _ (c .before .before .check-loads .ensures) e ∙ left-19 (c .before .before .before .before))
+
+check-images-requires : tie.Need-check-images-requires
+check-images-requires c κs =
+    let d7 = c .before .before .before .before .before .before in
+    let d = d7 .before .before .before .before .before .before .before .before .before .before .before .before in
+    (d .before .before .check-chain .ensures .chain (d .enum-told .given .1), d .before .before .before .before .before .pre .1 .1 .1 .1)
+
+returns-6 : tie.Need-returns-6
+returns-6 c =
+    let d9 = c .before .before in
+    let d7 = d9 .before .before .before .before in
     let d5 = d7 .before .before .before .before in
     let d1 = d5 .before .before .before .before .before .before .before .before .before in
     record {
-      told = c .check-loads .ensures ∙ left-19 d7;
+      told = c .check-images .ensures ∙ left-20 d9;
       chain = λ q. d1 .before .before .check-chain .ensures .chain (d1 .enum-told .given .1);
       entries-are = λ q. d5 .before .before .check-blocks .ensures .entries-are (d5 .enum-told5 .given .1);
     }
@@ -144,4 +165,8 @@ check-partitions-spec =
     (λ c. search needs)
     returns-4
     check-loads-requires
-    returns-5)
+    (λ c. search needs)
+    (λ c. search needs)
+    returns-5
+    check-images-requires
+    returns-6)

@@ -15,8 +15,8 @@ module _ (image : List ℕ) (place : ℕ) where
   -- ---- demand 1: refusals
 
   module _ (rows : List ℕ) where
-    -- A refused read has a number from 1 to 19 and a p of at most 32, leaves the buffer as found, and, where the buffer serves, the bill is
-    -- 0 and every body is empty.
+    -- A refused read has a number from 1 to 20 and a p of at most 32, leaves the buffer as found, and, where the buffer serves, the bill is
+    -- 0, every body is empty and no partition has an owner.
     pub read-refusal : (readAnswer image place rows ≡ 0 → ⊥)
         → RefusedCall image place (readAnswer image place rows) rows (readRows image place rows) bufferNumbers
     unfolding readBy withRows

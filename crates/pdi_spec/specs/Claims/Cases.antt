@@ -10,7 +10,7 @@ use Rattle.pdi_spec.specs.Laws
 -- Document 01's limits, by their values.
 pub limits-are : (longestImage ≡ 1_073_741_824) × (longestProgramImage ≡ 65_527) × (mostImages ≡ 32) × (mostPartitions ≡ 32)
     × (mostEntries ≡ 33) × (headWidth ≡ 4) × (rowWidth ≡ 8) × (bufferNumbers ≡ 260) × (numberBytes ≡ 8) × (bufferBytes ≡ 2080)
-    × (answerUnit ≡ 64) × (lastRule ≡ 19)
+    × (answerUnit ≡ 64) × (lastRule ≡ 20)
 limits-are = (refl, refl, refl, refl, refl, refl, refl, refl, refl, refl, refl, refl)
 
 -- An envelope is bad exactly for another version, a longer stated length, or too few or too many bytes ..

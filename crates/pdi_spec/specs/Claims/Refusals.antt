@@ -10,7 +10,7 @@ pub refusal-number : (rs : List Rule) (f : File) (k p : ℕ) → verdict rs f �
     → (r : Rule) × List·Mem r rs × (r .number ≡ k) × List·Mem p (r .tried f)
 refusal-number = Laws.Verdict.refusal-rule
 
--- The numbers of read's list are 1 to 19, in that order.
+-- The numbers of read's list are 1 to 20, in that order.
 pub numbers-of-read : (rows : ℕ) → map (λ (r : Rule). r .number) (withRows rows plainRules) ≡ numbers 1 lastRule
 unfolding withRows
 numbers-of-read = Laws.Plain.buffer-numbers _
@@ -20,11 +20,11 @@ pub numbers-of-host : (rows : ℕ) → map (λ (r : Rule). r .number) (withHostR
 unfolding withHostRows
 numbers-of-host = Laws.Plain.buffer-numbers _
 
--- The list of bill and body has all of them but 2.
-pub numbers-of-bill : map (λ (r : Rule). r .number) (withoutBuffer plainRules) ≡ 1 ∷ numbers 3 17
+-- The list of bill, body and owner has all of them but 2.
+pub numbers-of-bill : map (λ (r : Rule). r .number) (withoutBuffer plainRules) ≡ 1 ∷ numbers 3 18
 numbers-of-bill = Laws.Plain.bill-numbers
 
--- A refusal's number is from 1 to 19 and its p at most 32, with a row buffer ..
+-- A refusal's number is from 1 to 20 and its p at most 32, with a row buffer ..
 pub refusal-small : (least have : ℕ) (f : File) (k p : ℕ) → verdict (withBuffer least have plainRules) f ≡ refused k p
     → (1 ≤ k) × (k ≤ lastRule) × (p ≤ mostPartitions)
 refusal-small = Laws.Plain.buffer-small

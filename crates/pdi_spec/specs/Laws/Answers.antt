@@ -3,15 +3,12 @@
 use Prim.Native.Nat.{ℕ, zero, suc, _+_, _*_, _/_, _≤_, _<_}
 use native.Mathlib.Omega.{arith}
 use mathlib.Core.List.{List, [], _∷_, _++_, flatMap, List·Mem, mem-cons-of-mem}
-use mathlib.Core.Logic.{_↔_, _⊎_, ⊎-elim}
+use mathlib.Core.Logic.{_↔_, _⊎_}
 use mathlib.Core.Path.{_≡_, refl, sym, _∙_, ap}
-use mathlib.Core.Bool.{true, cond}
 use lib.ListN.{length, take, drop, getD, length-take, length-drop}
-use lib.Dec.{ltb}
 use lib.Seq.{take-take}
-use borrow.Author.Tests.{lt-ltb, le-ltb}
-use Rattle.pdi_spec.specs.{Limits.headWidth, Limits.rowWidth, Limits.bufferNumbers, Limits.numberBytes, Limits.bufferBytes, File.File, File.partitions, File.header, Ranges.Range, Ranges.span, Ranges.body, Verdict.Rule, Verdict.Outcome, Verdict.accepted, Verdict.refused, Verdict.verdict, RuleList.rule1, RuleList.withoutBuffer, RuleList.withRows, RuleList.withHostRows, RuleList.rule14, RuleList.rule15, Answers.answer, Answers.ifAccepted, Answers.ifPartition, Answers.head, Answers.headAndRows, Answers.written, Answers.rowsAfter, Answers.cut, Answers.asked, Answers.readBy, Answers.rowsBy, Answers.billBy, Answers.bodyBy, Answers.billed, Answers.billUnder, Answers.emptyPart, Answers.partUnder, Answers.bodyUnder, Host.leBytes, Host.writtenBytes, Host.bytesAfter, Host.hostReadBy, Host.hostRowsBy, Stated.byRows, Stated.inSpans, Loading.Memory, Loading.Feed, Loading.Whole, Loading.Loaded, Supported.Supported, Rules.notFrom}
-use Rattle.pdi_spec.specs.Laws.{Lists.flatMap-length, Refusals.answer-refused, Refusals.with-room, Refusals.few-partitions, Refusals.zero-accepted, Refusals.zero-accepts, Refusals.buffer-accepts, Rows.written-length, Rows.after-accepted, Rows.after-refused, Rows.length-after, Rows.rows-state, Stated.accepted-loads, Stated.accepted-bill, Tests.or-inl, Tests.or-inr, Verdict.accepted-kept, Kept.lengths-stated, Kept.span-stated}
+use Rattle.pdi_spec.specs.{Limits.headWidth, Limits.rowWidth, Limits.bufferNumbers, Limits.numberBytes, Limits.bufferBytes, File.File, File.partitions, File.header, Ranges.Range, Ranges.span, Ranges.body, Verdict.Rule, Verdict.Outcome, Verdict.accepted, Verdict.refused, Verdict.verdict, RuleList.rule1, RuleList.withoutBuffer, RuleList.withRows, RuleList.withHostRows, RuleList.rule14, RuleList.rule15, Answers.answer, Answers.ifAccepted, Answers.head, Answers.headAndRows, Answers.written, Answers.rowsAfter, Answers.cut, Answers.asked, Answers.readBy, Answers.rowsBy, Answers.billBy, Answers.bodyBy, Answers.billed, Answers.billUnder, Answers.emptyPart, Answers.partUnder, Answers.bodyUnder, Host.leBytes, Host.writtenBytes, Host.bytesAfter, Host.hostReadBy, Host.hostRowsBy, Stated.byRows, Stated.inSpans, Loading.Memory, Loading.Feed, Loading.Whole, Loading.Loaded, Supported.Supported}
+use Rattle.pdi_spec.specs.Laws.{Lists.flatMap-length, Partitions.refused-gives, Partitions.other-gives, Partitions.accepted-gives, Refusals.answer-refused, Refusals.with-room, Refusals.few-partitions, Refusals.zero-accepted, Refusals.zero-accepts, Refusals.buffer-accepts, Rows.written-length, Rows.after-accepted, Rows.after-refused, Rows.length-after, Rows.rows-state, Stated.accepted-loads, Stated.accepted-bill, Verdict.accepted-kept, Kept.lengths-stated, Kept.span-stated}
 
 -- ---- bill
 
@@ -22,32 +19,6 @@ bill-accepted rs f e = rw e refl
 pub bill-refused : (rs : List Rule) (f : File) (k p : ℕ) → verdict rs f ≡ refused k p → billUnder rs f ≡ 0
 unfolding billUnder ifAccepted
 bill-refused rs f k p e = rw e refl
-
--- ---- of a partition
-
-module _ {A : Type 0} (rs : List Rule) (f : File) (p : ℕ) (yea nay : A) where
-  -- refused
-  pub refused-gives : {k q : ℕ} → verdict rs f ≡ refused k q → ifPartition rs f p yea nay ≡ nay
-  unfolding ifPartition ifAccepted
-  refused-gives e = rw e refl
-
-  -- of a p that isn't 1 to N
-  pub other-gives : (p < 1) ⊎ (partitions f < p) → ifPartition rs f p yea nay ≡ nay
-  unfolding ifPartition ifAccepted notFrom
-  other-gives h = go (verdict rs f)
-    where
-      outside : notFrom 1 (partitions f) p ≡ true
-      outside =
-          ⊎-elim (λ l. or-inl (ltb p 1) _ (lt-ltb p 1 l)) (λ l. or-inr (ltb p 1) (ltb (partitions f) p) (lt-ltb (partitions f) p l)) h
-
-      go : (o : Outcome) → ifAccepted o (cond (notFrom 1 (partitions f) p) nay yea) nay ≡ nay
-      go accepted = rw outside refl
-      go (refused k q) = refl
-
-  -- where a list accepts
-  pub accepted-gives : verdict rs f ≡ accepted → 1 ≤ p → p ≤ partitions f → ifPartition rs f p yea nay ≡ yea
-  unfolding ifPartition ifAccepted notFrom
-  accepted-gives e low high = rw (e, le-ltb p 1 low, le-ltb (partitions f) p high) refl
 
 -- ---- body
 

@@ -1,17 +1,17 @@
 -- Laws of image headers: their counts added up, what rule 20 asks of them, and in which image's run a partition lies. Assumes nothing.
-use Prim.Native.Nat.{ℕ, zero, suc, _+_, _-_, _*_, _≤_, _<_}
+use Prim.Native.Nat.{ℕ, zero, suc, _+_, _-_, _≤_, _<_}
 use native.Mathlib.Numerals.{add-one}
 use native.Mathlib.Omega.{arith}
 use native.Mathlib.Decide.{decLt}
 use mathlib.Core.Bool.{Bool, false, not}
-use mathlib.Core.List.{List, [], _∷_, List·Mem}
+use mathlib.Core.List.{List, [], _∷_, map, List·Mem}
 use mathlib.Core.Logic.{_↔_}
 use mathlib.Core.Option.{Option, none, some, Option·elim}
 use mathlib.Core.Path.{_≡_, refl, sym, _∙_, ap}
 use lib.Dec.{leb, ltb, eqb}
 use borrow.Author.Tests.{ltb-false, le-ltb, leb-true, leb-false, le-leb}
-use Rattle.pdi_spec.specs.{Lists.numbers, Lists.anyTrue, Lists.anyOf, Lists.firstOf, Lists.First, File.File, File.partitions, Images.images, Images.imageNumbers, Images.imageHeader, Images.ownedUpTo, Images.InRun, Images.ownerImage, ImageRules.imageChecksumBad, ImageRules.runMisplaced, ImageRules.imagesBad, ImageRules.OwnsRun, ImageRules.OwnRuns}
-use Rattle.pdi_spec.specs.Laws.{Tests.equal-told, Tests.equal-tells, Tests.false-at, Tests.none-entry, Tests.entry-none, Tests.or-both, Tests.never-both, Tests.mem-numbers, Tests.numbers-mem, Firsts.first-mem, Firsts.first-none, Firsts.first-some, Firsts.first-smallest}
+use Rattle.pdi_spec.specs.{Lists.numbers, Lists.sumOf, Lists.anyTrue, Lists.anyOf, Lists.firstOf, Lists.First, File.File, File.partitions, Images.images, Images.imageNumbers, Images.imageHeader, Images.ownedUpTo, Images.InRun, Images.ownerImage, Verdict.once, Verdict.Kept, RuleList.rule20, ImageRules.imageChecksumBad, ImageRules.runMisplaced, ImageRules.imagesBad, ImageRules.OwnsRun, ImageRules.OwnRuns}
+use Rattle.pdi_spec.specs.Laws.{Lists.sum-more, Tests.equal-told, Tests.equal-tells, Tests.false-at, Tests.none-entry, Tests.entry-none, Tests.or-both, Tests.never-both, Tests.mem-numbers, Tests.numbers-mem, Kept.kept-once, Firsts.first-mem, Firsts.first-none, Firsts.first-some, Firsts.first-smallest}
 
 module _ (f : File) where
   -- ---- counts added up
@@ -29,6 +29,18 @@ module _ (f : File) where
 
   pub owned-grows : (i k : ℕ) → i ≤ k → ownedUpTo f i ≤ ownedUpTo f k
   owned-grows i k h = omega (arith, grows-by i (k - i), ap (ownedUpTo f) {x = i + (k - i)} {y = k} (omega arith))
+
+  abbrev count : ℕ → ℕ
+  count i = imageHeader f i .partitions
+
+  -- together they are the sum of the images' counts
+  pub owned-sum : (i : ℕ) → ownedUpTo f i ≡ sumOf (map (λ (k : ℕ). imageHeader f k .partitions) (numbers 1 i))
+  unfolding ownedUpTo numbers sumOf
+  owned-sum zero = refl
+  owned-sum (suc i) =
+      let next = ap (λ (n : ℕ). sumOf (map count (numbers 1 n))) {x = suc i} {y = i + 1} (omega arith) in
+      let last = ap (λ (k : ℕ). sumOf (map count (numbers 1 i)) + count k) {x = 1 + i} {y = suc i} (omega arith) in
+      ap (λ (n : ℕ). n + count (suc i)) (owned-sum i) ∙ sym (next ∙ sum-more count 1 i ∙ last)
 
   -- ---- rule 20
 
@@ -79,6 +91,10 @@ module _ (f : File) where
   pub runs-kept : (imagesBad f ≡ false) ↔ OwnRuns f
   unfolding imagesBad
   runs-kept = (none-broken, all-kept)
+
+  pub runs-stated : Kept rule20 f ↔ OwnRuns f
+  unfolding Kept once
+  runs-stated = (λ k. runs-kept .0 (kept-once 20 imagesBad f k), λ r p m. runs-kept .1 r)
 
   -- ---- the run that a partition lies in
 

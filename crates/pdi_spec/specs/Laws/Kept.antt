@@ -10,8 +10,8 @@ use mathlib.Core.Logic.{_⊎_, inl, inr, ⊎-elim}
 use lib.Dec.{eqb, ltb}
 use lib.ListN.{length}
 use borrow.Author.Tests.{ltb-false}
-use Rattle.pdi_spec.specs.{Lists.numbers, Lists.firstOf, File.File, File.table, File.partitions, File.partitionNumbers, File.header, File.hashBlock, Verdict.Rule, Verdict.once, Verdict.each, Verdict.eachAndTable, Verdict.Kept, Rules.spanOutside, Rules.loadAddressBad, Rules.hashBlockWrong, Rules.notFrom, Rules.tableFieldsBad, Rules.lengthsBad, RuleList.ofHeader, RuleList.withHeader, RuleList.ofTable, RuleList.rule6, RuleList.rule14, RuleList.rule15, RuleList.rule16, RuleList.rule17, Limits.mostImages, Limits.mostPartitions, Words.wordAt, HashBlock.noBlock, HashBlock.entryAt, HashBlock.entriesIn, Ranges.endOf, Ranges.past, Ranges.span, Ranges.loadAddressOf, Ranges.loadRange, Ranges.loads, Ranges.addressSpace, Ranges.Range, Answers.hashEntry}
-use Rattle.pdi_spec.specs.Laws.{Firsts.first-mem, Firsts.first-some, Tests.numbers-mem, Tests.either, Tests.or-left, Tests.or-right, Tests.false-at, HashBlock.own-entry, HashBlock.no-entry, HashBlock.not-bad}
+use Rattle.pdi_spec.specs.{Lists.numbers, Lists.firstOf, Headers.imageHeaderSize, Headers.imageHeaderWordsOf, Images.images, Images.imageHeaderAt, Ranges.tableWithOptional, Ranges.imageHeaders, File.File, File.table, File.partitions, File.partitionNumbers, File.header, File.hashBlock, Verdict.Rule, Verdict.once, Verdict.each, Verdict.eachAndTable, Verdict.Kept, Rules.spanOutside, Rules.loadAddressBad, Rules.hashBlockWrong, Rules.notFrom, Rules.tableFieldsBad, Rules.imageHeadersOutside, Rules.lengthsBad, RuleList.ofHeader, RuleList.withHeader, RuleList.ofTable, RuleList.withTable, RuleList.rule6, RuleList.rule9, RuleList.rule14, RuleList.rule15, RuleList.rule16, RuleList.rule17, Limits.mostImages, Limits.mostPartitions, Words.wordAt, HashBlock.noBlock, HashBlock.entryAt, HashBlock.entriesIn, Ranges.endOf, Ranges.past, Ranges.span, Ranges.loadAddressOf, Ranges.loadRange, Ranges.loads, Ranges.addressSpace, Ranges.Range, Answers.hashEntry}
+use Rattle.pdi_spec.specs.Laws.{Tests.equal-told, Firsts.first-mem, Firsts.first-some, Tests.numbers-mem, Tests.either, Tests.or-left, Tests.or-right, Tests.false-at, HashBlock.own-entry, HashBlock.no-entry, HashBlock.not-bad}
 
 -- ---- by the kinds of rules
 
@@ -72,6 +72,20 @@ counts-stated f k =
     let images = from-to 1 mostImages (table f .images) (false-at _ e 0) in
     let chain = from-to 1 mostPartitions (partitions f) (false-at _ e 1) in
     (images .0, images .1, chain .0, chain .1)
+
+pub image-headers-stated : (f : File) → Kept rule6 f → imageHeaderWordsOf (table f .headerSizes) ≡ 16
+unfolding tableFieldsBad
+image-headers-stated f k = equal-told _ 16 (false-at _ (kept-once 6 (ofTable tableFieldsBad) f k) 3)
+
+-- so, with rule 9, each image header lies inside the image
+pub image-header-inside : (f : File) → Kept rule6 f → Kept rule9 f → (i : ℕ) → i < images f
+    → imageHeaderAt f (i + 1) + imageHeaderSize ≤ length (f .bytes)
+unfolding imageHeadersOutside Inside endOf images imageHeaderAt
+image-header-inside f six nine i h =
+    let outside = kept-once 9 (withTable imageHeadersOutside) f nine in
+    let all = not-past f (imageHeaders (table f)) (or-right (past (length (f .bytes)) (tableWithOptional (table f))) _ outside) in
+    let size = ap (λ (n : ℕ). 4 * (table f .images * n)) (image-headers-stated f six) in
+    omega (arith, all, size)
 
 module _ (f : File) (p : ℕ) (low : 1 ≤ p) (high : p ≤ partitions f) where
   pub lengths-stated : Kept rule14 f

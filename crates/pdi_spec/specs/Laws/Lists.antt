@@ -5,14 +5,14 @@ use native.Mathlib.Numerals.{add-one}
 use native.Mathlib.Nat.{mul-zero, mul-suc}
 use native.Mathlib.Omega.{arith}
 use mathlib.Core.Bool.{Bool, true, false, cond}
-use mathlib.Core.List.{List, [], _∷_, _++_, flatMap, List·Mem, mem-cons-self, mem-cons-of-mem, mem-append, mem-append-left, mem-append-right, not-mem-nil, eq-or-mem-of-mem-cons, append-assoc, append-nil, Sublistᴰ, Sublistᴰ·slnil, Sublistᴰ·cons, Sublistᴰ·cons-cons, Pairwise, Pairwise·nil, Pairwise·cons, List·Nodup, nodup-append, Disjoint}
+use mathlib.Core.List.{List, [], _∷_, _++_, map, flatMap, List·Mem, mem-cons-self, mem-cons-of-mem, mem-append, mem-append-left, mem-append-right, not-mem-nil, eq-or-mem-of-mem-cons, append-assoc, append-nil, Sublistᴰ, Sublistᴰ·slnil, Sublistᴰ·cons, Sublistᴰ·cons-cons, Pairwise, Pairwise·nil, Pairwise·cons, List·Nodup, nodup-append, Disjoint}
 use mathlib.Core.Logic.{∥∥₁-elim, ∥∥₁-map, ∥∥₁-prop, Or·elim}
 use mathlib.Core.HLevel.{⊥-prop}
 use mathlib.Core.Path.{_≡_, refl, sym, _∙_, ap, subst}
 use lib.ListN.{length, length-append, set, getD}
 use lib.Seq.{sets, getD-set-same, getD-set-other}
 use borrow.Author.Count.{below-more}
-use Rattle.pdi_spec.specs.{Lists.numbers, Lists.those}
+use Rattle.pdi_spec.specs.{Lists.numbers, Lists.sumOf, Lists.those}
 
 -- the entries that pass a test are some of the list, in its order
 pub those-sublist : {A : Type 0} (test : A → Bool) (xs : List A) → Sublistᴰ (those test xs) xs
@@ -80,6 +80,15 @@ numbers-more a zero = ap (λ (x : ℕ). x ∷ []) {x = a} {y = a + 0} (omega ari
 numbers-more a (suc n) =
     ap (λ (l : List ℕ). a ∷ l)
     (numbers-more (suc a) n ∙ ap (λ (x : ℕ). numbers (suc a) n ++ (x ∷ [])) {x = suc a + n} {y = a + suc n} (omega arith))
+
+-- a sum over numbers that follow one another, and then one more
+pub sum-more : (g : ℕ → ℕ) (a n : ℕ) → sumOf (map g (numbers a (n + 1))) ≡ sumOf (map g (numbers a n)) + g (a + n)
+unfolding sumOf numbers
+sum-more g a n = rw (add-one n) (go a n)
+  where
+    go : (a n : ℕ) → sumOf (map g (numbers a (suc n))) ≡ sumOf (map g (numbers a n)) + g (a + n)
+    go a zero = omega (arith, ap g {x = a + 0} {y = a} (omega arith))
+    go a (suc n) = omega (arith, go (suc a) n, ap g {x = suc a + n} {y = a + suc n} (omega arith))
 
 pub numbers-length : (a n : ℕ) → length (numbers a n) ≡ n
 unfolding numbers

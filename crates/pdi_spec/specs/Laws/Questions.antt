@@ -1,16 +1,17 @@
 -- Laws of the answers themselves: what a question's answer says of the rules, of what is claimed twice, of the bill and of its buffer. For
 -- any question whose own rules are as Supported says, and for plain reading where its numbers matter. Assumes nothing.
 use Prim.Native.Nat.{ℕ, _+_, _*_, _/_, _%_, _≤_, _<_}
+use native.Mathlib.Bridge.{le-prop}
 use native.Mathlib.Omega.{arith}
 use mathlib.Core.Bool.{Bool, true, false, cond}
-use mathlib.Core.List.{List, [], _∷_, _++_, List·Mem, not-mem-nil, mem-cons-of-mem}
+use mathlib.Core.List.{List, _∷_, _++_, List·Mem, not-mem-nil, mem-cons-of-mem, forall-mem-cons}
 use mathlib.Core.Logic.{_↔_, ⊎-elim}
 use mathlib.Core.Path.{_≡_, refl, sym, _∙_, ap}
-use lib.Dec.{ltb}
+use lib.Dec.{ltb, lit<}
 use lib.ListN.{length}
 use borrow.Author.Tests.{ltb-true, ltb-false, lt-ltb}
-use Rattle.pdi_spec.specs.{Limits.mostPartitions, Limits.bufferNumbers, Limits.bufferBytes, Limits.answerUnit, Limits.lastRule, Lists.firstOf, File.File, Rules.imageTooLong, Rules.bufferTooShort, RuleList.rule1, RuleList.rule2, RuleList.rule18, RuleList.rule19, RuleList.readingRules, RuleList.plainRules, RuleList.withoutBuffer, RuleList.withBuffer, RuleList.withRows, RuleList.withHostRows, Verdict.Rule, Verdict.once, Verdict.Outcome, Verdict.accepted, Verdict.refused, Verdict.verdict, Verdict.Kept, Verdict.Keeps, Verdict.FirstRefusal, Answers.answer, Answers.ifAccepted, Answers.asked, Answers.RefusedCall, Answers.billUnder, Answers.readBy, Answers.billBy, Answers.partBy, Answers.bodyBy, Host.hostReadBy, Twice.PositionTwice, Twice.AddressTwice, Twice.SmallestMeeting, Twice.ClaimedTwice, Supported.Supported}
-use Rattle.pdi_spec.specs.Laws.{Tests.either, Verdict.verdict-broken, Verdict.verdict-kept, Verdict.accepted-keeps, Verdict.keeps-accepted, Verdict.refused-first, Verdict.first-refused, Refusals.answer-refused, Refusals.with-room, Refusals.zero-accepted, Refusals.refusal-p, Stated.headers-state, Stated.accepted-bill, Answers.listed, Answers.bill-refused, Answers.part-refused, Answers.body-refused, Answers.host-same, Plain.plain, Plain.buffer-split, Plain.buffer-small, ClashVerdict.refused-18, ClashVerdict.refused-19, ClashVerdict.refused-19-some}
+use Rattle.pdi_spec.specs.{Limits.mostPartitions, Limits.bufferNumbers, Limits.bufferBytes, Limits.answerUnit, Limits.lastRule, Lists.firstOf, File.File, Rules.imageTooLong, Rules.bufferTooShort, RuleList.rule1, RuleList.rule2, RuleList.rule18, RuleList.rule19, RuleList.imageRules, RuleList.readingRules, RuleList.plainRules, RuleList.withoutBuffer, RuleList.withBuffer, RuleList.withRows, RuleList.withHostRows, Verdict.Rule, Verdict.once, Verdict.Outcome, Verdict.accepted, Verdict.refused, Verdict.verdict, Verdict.Kept, Verdict.Keeps, Verdict.FirstRefusal, Answers.answer, Answers.ifAccepted, Answers.asked, Answers.RefusedCall, Answers.billUnder, Answers.readBy, Answers.billBy, Answers.partBy, Answers.bodyBy, Answers.ownerBy, Host.hostReadBy, Twice.PositionTwice, Twice.AddressTwice, Twice.SmallestMeeting, Twice.ClaimedTwice, Supported.Supported}
+use Rattle.pdi_spec.specs.Laws.{Tests.either, Verdict.verdict-broken, Verdict.verdict-kept, Verdict.accepted-keeps, Verdict.keeps-accepted, Verdict.refused-first, Verdict.first-refused, Refusals.answer-refused, Refusals.with-room, Refusals.zero-accepted, Refusals.refusal-p, Stated.headers-state, Stated.accepted-bill, Answers.listed, Answers.bill-refused, Answers.part-refused, Answers.body-refused, Answers.host-same, Owners.owner-refused, Plain.plain, Plain.buffer-split, Plain.buffer-small, ClashVerdict.refused-18, ClashVerdict.refused-19, ClashVerdict.refused-19-some}
 
 -- ---- a list with a row buffer that has `have`, where `least` serves
 
@@ -86,23 +87,24 @@ module _ (least have : ℕ) (f : File) where
     unfolding Keeps
     headers-kept r m = before-kept r (mem-cons-of-mem rule1 (mem-cons-of-mem (rule2 least have) m))
 
-    none-after : (r : Rule) → List·Mem r [] → 19 < r .number
-    none-after r m = absurd (not-mem-nil m)
+    higher-after : (r : Rule) → List·Mem r imageRules → 19 < r .number
+    unfolding imageRules once
+    higher-after = forall-mem-cons (λ r. le-prop) .1 (lit< tt, λ r m. absurd (not-mem-nil m))
 
-    split : verdict (withBuffer least have plainRules) f ≡ verdict (before ++ (rule18 ∷ rule19 ∷ [])) f
+    split : verdict (withBuffer least have plainRules) f ≡ verdict (before ++ (rule18 ∷ rule19 ∷ imageRules)) f
     split = ap (λ (l : List Rule). verdict l f) (buffer-split least have)
 
     answers-18 : (given ≡ answerUnit * 18) ↔ PositionTwice f
     unfolding answer
     answers-18 =
-        let law = refused-18 f before [] before-kept headers-kept none-after 0 in (
+        let law = refused-18 f before imageRules before-kept headers-kept higher-after 0 in (
           λ e. law .0 (sym split ∙ refusal plain least have f 18 0 (omega arith) (omega arith) (omega (arith, e))) .0,
           λ t. ap answer (split ∙ law .1 (t, refl)),
         )
 
     -- the refusal that an answer of number 19 stands for
     nineteen : given / answerUnit ≡ 19
-        → (p : ℕ) × (verdict (before ++ (rule18 ∷ rule19 ∷ [])) f ≡ refused 19 p) × (given % answerUnit ≡ p)
+        → (p : ℕ) × (verdict (before ++ (rule18 ∷ rule19 ∷ imageRules)) f ≡ refused 19 p) × (given % answerUnit ≡ p)
     nineteen e =
         let t = told (λ z. omega (arith, z)) in
         let k : t .0 ≡ 19 = omega (arith, t .3, t .6) in
@@ -111,7 +113,7 @@ module _ (least have : ℕ) (f : File) where
     answers-19 : (given / answerUnit ≡ 19) ↔ ((PositionTwice f → ⊥) × AddressTwice f)
     unfolding answer
     answers-19 =
-        let law = refused-19-some f before [] before-kept headers-kept none-after in (
+        let law = refused-19-some f before imageRules before-kept headers-kept higher-after in (
           λ e. let t = nineteen e in law .0 (t .0, t .1),
           λ t.
               let r = law .1 t in
@@ -124,18 +126,18 @@ module _ (least have : ℕ) (f : File) where
     smallest-19 : given / answerUnit ≡ 19 → SmallestMeeting f (given % answerUnit)
     smallest-19 e =
         let t = nineteen e in
-        rw (t .2) (refused-19 f before [] before-kept headers-kept none-after (t .0) .0 (t .1) .1)
+        rw (t .2) (refused-19 f before imageRules before-kept headers-kept higher-after (t .0) .0 (t .1) .1)
 
     pub claimed-twice : ClaimedTwice f (answer (verdict (withBuffer least have plainRules) f))
     claimed-twice = record { stored = answers-18; loaded = answers-19; smallest-p = smallest-19 }
 
--- ---- bill and body beside an answer
+-- ---- bill, body and owner beside an answer
 
 -- plain reading, refused with a row buffer of which `least` would serve
 pub refused-call : (image : List ℕ) (place least : ℕ) (found left : List ℕ)
     → (answer (verdict (withBuffer least (length found) plainRules) (asked image place)) ≡ 0 → ⊥) → left ≡ found
     → RefusedCall image place (answer (verdict (withBuffer least (length found) plainRules) (asked image place))) found left least
-unfolding billBy partBy bodyBy
+unfolding billBy partBy bodyBy ownerBy
 refused-call image place least found left n same =
     let f = asked image place in
     let tells = refusal-tells least (length found) f n in
@@ -150,6 +152,7 @@ refused-call image place least found left n same =
       bills-nothing = λ h. bill-refused _ f _ _ (e h);
       no-part = λ h p. part-refused _ f _ _ (e h) p;
       no-body = λ h p. body-refused _ f _ _ (e h) p;
+      no-owner = λ h p. owner-refused _ f _ _ (e h) p;
     }
 
 -- no image is billed more than its length

@@ -10,7 +10,7 @@ use mathlib.Core.Logic.{_↔_, ∥∥₁-elim}
 use mathlib.Core.Path.{_≡_, refl, sym, _∙_, ap}
 use lib.Dec.{lit<}
 use borrow.Author.Tests.{ltb-false, le-ltb}
-use Rattle.pdi_spec.specs.{Limits.mostPartitions, Limits.answerUnit, Lists.numbers, Lists.firstOf, File.File, File.partitions, File.partitionNumbers, Verdict.Rule, Verdict.once, Verdict.each, Verdict.eachAndTable, Verdict.Outcome, Verdict.accepted, Verdict.refused, Verdict.verdict, Verdict.Kept, Rules.bufferTooShort, RuleList.rule1, RuleList.rule2, RuleList.rule6, RuleList.tableRules, RuleList.withoutBuffer, RuleList.withBuffer, Answers.answer, Supported.WellTried, Supported.Supported}
+use Rattle.pdi_spec.specs.{Limits.mostPartitions, Limits.answerUnit, Lists.numbers, Lists.firstOf, File.File, File.partitions, File.partitionNumbers, Verdict.Rule, Verdict.once, Verdict.each, Verdict.eachAndTable, Verdict.Outcome, Verdict.accepted, Verdict.refused, Verdict.verdict, Verdict.Kept, Rules.bufferTooShort, RuleList.rule1, RuleList.rule2, RuleList.rule6, RuleList.rule9, RuleList.tableRules, RuleList.withoutBuffer, RuleList.withBuffer, Answers.answer, Supported.WellTried, Supported.Supported}
 use Rattle.pdi_spec.specs.Laws.{Tests.mem-numbers, Tests.numbers-ascending, Lists.Every, Lists.every-mem, Kept.kept-once, Kept.by-number, Kept.counts-stated, Verdict.andThen, Verdict.verdict-append, Verdict.verdict-after, Verdict.verdict-kept, Verdict.accepted-kept, Verdict.refusal-rule, Verdict.no-such-number, Verdict.refused-p}
 
 -- ---- the answer
@@ -113,6 +113,11 @@ module _ (least have : ℕ) (own : List Rule) (f : File) where
 pub table-counts : List·Mem rule6 tableRules
 unfolding tableRules firstOf once
 table-counts = by-number 6 tableRules refl
+
+-- and so is rule 9
+pub table-parts : List·Mem rule9 tableRules
+unfolding tableRules firstOf once
+table-parts = by-number 9 tableRules refl
 
 module _ {own : List Rule} (s : Supported own) where
   -- where it accepts, there are at most 32 partitions

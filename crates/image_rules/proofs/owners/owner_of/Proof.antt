@@ -25,10 +25,9 @@ image-header-at-requires : tie.Need-image-header-at-requires Inv-loop μ-loop
 image-header-at-requires c κs = (c .before .before .before .before .pre, omega arith)
 
 -- the count that the header states
-count-is : (c : tie.After-image-header-at Inv-loop μ-loop)
-    → c .image-header-at .result .partitions
-    ≡ imageHeader (fileOf (c .before .before .before .before .before .args .image .now) (c .before .before .before .before .before .args .table))
-    (c .before .before .loop .i + 1) .partitions
+count-is : (c : tie.After-image-header-at Inv-loop μ-loop) → let a = c .before .before .before .before .before .args in
+    c .image-header-at .result .partitions
+    ≡ imageHeader (fileOf (a .image .now) (a .table)) (c .before .before .loop .i + 1) .partitions
 count-is c = ap (λ (h : ImageHeader). h .partitions) (c .image-header-at .ensures)
 
 add-owned : tie.Need-add-owned Inv-loop μ-loop

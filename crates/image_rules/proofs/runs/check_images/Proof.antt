@@ -3,7 +3,7 @@ use Prim.Native.Nat.{_-_, _≤_}
 use borrow.Author.Needs.{needs}
 use native.Mathlib.Omega.{arith}
 use mathlib.Core.Option.{Option·elim}
-use mathlib.Core.Path.{_≡_, refl, sym, _∙_}
+use mathlib.Core.Path.{refl, sym, _∙_}
 use Rattle.pdi_spec.specs.Lists.{firstOf}
 use Rattle.pdi_spec.specs.Verdict.{once, verdict}
 use Rattle.chain_rules.specs.Answers.{answerOf}
@@ -32,7 +32,8 @@ unfolding verdict once firstOf Option·elim answerOf
 returns c =
     let s = c .before .before .before .before .before .before .before in
     let l = c .before .before .before .before .loop in
-    rw (broken _ (l .inv .1) (omega (arith, images-are _ (s .pre .1 .own))) (sym (c .before .before .run-at .ensures) ∙ c .enum-told .given .1)) refl
+    let run = sym (c .before .before .run-at .ensures) ∙ c .enum-told .given .1 in
+    rw (broken _ (l .inv .1) (omega (arith, images-are _ (s .pre .1 .own))) run) refl
 
 loop-again : tie.Need-loop-again Inv-loop μ-loop
 loop-again c =

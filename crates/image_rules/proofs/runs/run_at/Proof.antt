@@ -1,10 +1,9 @@
 -- `image_rules::runs::run_at` meets its contract: its tests are those of one image's run (ImageRuns.antt). Assumes nothing.
 use borrow.Author.Needs.{needs}
 use native.Mathlib.Omega.{arith}
-use mathlib.Core.Path.{_≡_, sym, _∙_, ap}
+use mathlib.Core.Path.{ap}
 use Rattle.pdi_spec.specs.Headers.{ImageHeader, imageHeaderFrom}
 use Rattle.pdi_spec.specs.Images.{imageHeader}
-use Rattle.chain_rules.specs.Chain.{fileOf}
 use Rattle.chain_rules.proofs.Counts.{counted}
 use Rattle.image_rules.specs.Runs.{runOf}
 use Rattle.image_rules.proofs.ImageRuns.{none-left, run-told}
