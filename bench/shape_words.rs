@@ -42,7 +42,7 @@ impl Shape {
         put(bytes, at + table::KIND, u32::from_le_bytes(kind));
         put(bytes, at + table::SIZES, words(HEADER) << 16 | words(image_header::BYTES) << 8 | words(HEADER));
         put(bytes, at + table::KEY, KEYS[0]);
-        self.put_owner(bytes, at, 0);
+        self.put_shared(bytes, at, 0);
     }
 
     /// Each image owns as many partitions as the others.
@@ -69,11 +69,11 @@ impl Shape {
         put(bytes, at + partition::D, words(start));
         put(bytes, at + partition::ATTRIBUTES, 0x0400_0001);
         put(bytes, at + partition::KEY, KEYS[p % KEYS.len()]);
-        self.put_owner(bytes, at, p);
+        self.put_shared(bytes, at, p);
     }
 
     /// What table and partition header share.
-    fn put_owner(&self, bytes: &mut [u8], at: usize, p: usize) {
+    fn put_shared(&self, bytes: &mut [u8], at: usize, p: usize) {
         if self.blocks {
             put(bytes, at + BLOCK_LENGTH, self.block_length() as u32);
             put(bytes, at + BLOCK_OFFSET, words(self.block(p)));

@@ -24,7 +24,7 @@ use Rattle.table_rules.specs.declared.TableAnswer.{TableAnswer}
 use Rattle.chain_rules.specs.Answers.{answerOf}
 use Rattle.chain_rules.specs.Chain.{IsTable, fileOf}
 use Rattle.chain_rules.specs.declared.Answer.{Answer}
-use Rattle.image_rules.specs.Runs.{ImagesInside}
+use Rattle.image_rules.specs.Runs.{ImageHeadersInside}
 use Rattle.core.specs.Readings.{coreRules, outcomeOf, Held, CoreAnswer}
 use Rattle.core.specs.declared.Reading.{Reading}
 use Rattle.core.proofs.Stages.{kept-accepts, refused-refuses, once-broken, once-kept}
@@ -88,7 +88,7 @@ pub record TableKept (bytes : List ℕ) (place : ℕ) (t : TableHeader) : Type 0
   pub at-place : t .place ≡ place
   pub own : IsTable bytes t
   pub few : t .partitions ≤ mostPartitions
-  pub images : ImagesInside bytes t
+  pub images : ImageHeadersInside bytes t
 
 pub table-checked : (bytes : List ℕ) (place : ℕ) {t : TableHeader} → tableAnswer (asked bytes place) ≡ TableAnswer.Checked t
     → TableKept bytes place t

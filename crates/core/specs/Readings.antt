@@ -12,7 +12,7 @@ use Rattle.chain_rules.specs.Answers.{answerOf}
 use Rattle.chain_rules.specs.Chain.{Chain, fileOf}
 use Rattle.chain_rules.specs.declared.Answer.{Answer}
 use Rattle.block_rules.specs.Blocks.{Entries}
-use Rattle.image_rules.specs.Runs.{ImagesInside}
+use Rattle.image_rules.specs.Runs.{ImageHeadersInside}
 use Rattle.core.specs.declared.Reading.{Reading}
 
 -- The list that the core tries, of a question with its own rules of the image. Rule 2 is broken where the row buffer is short; without a
@@ -43,7 +43,7 @@ pub record Held (bytes : List ℕ) (place : ℕ) (t : TableHeader) (bill : ℕ) 
   pub chain : Chain bytes t offsets
   pub entries-are : Entries bytes t entries
   pub billed-is : bill ≡ billed (fileOf bytes t)
-  pub images : ImagesInside bytes t
+  pub images : ImageHeadersInside bytes t
 
 -- the core's promise, for a list of rules
 pub record CoreAnswer (bytes : List ℕ) (place : ℕ) (rs : List Rule) (offsets entries : List ℕ) (r : Reading) : Type 0 where

@@ -5,7 +5,7 @@ ghost use lib.ListN.{length};
 ghost use Rattle.pdi_spec.specs.Limits.{mostPartitions};
 ghost use Rattle.pdi_spec.specs.RuleList.{laterRules, plainRules};
 ghost use Rattle.chain_rules.specs.Chain.{IsTable};
-ghost use Rattle.image_rules.specs.Runs.{ImagesInside};
+ghost use Rattle.image_rules.specs.Runs.{ImageHeadersInside};
 ghost use Rattle.core.specs.Readings.{CoreAnswer, PartitionsAnswer, coreRules, numberIn};
 use chain_rules::Answer;
 use headers::MOST_PARTITIONS;
@@ -34,7 +34,7 @@ fn check_partitions(
     requires few { ⌜ table .partitions ≤ mostPartitions ⌝ }
     requires offsets { ⌜ length (now offsets) ≡ mostPartitions ⌝ }
     requires entries { ⌜ length (now entries) ≡ mostPartitions ⌝ }
-    requires images { ⌜ ImagesInside (now image) table ⌝ }
+    requires images { ⌜ ImageHeadersInside (now image) table ⌝ }
     ensures { λ r. ⌜ PartitionsAnswer (now (image .entry)) table laterRules (now (offsets .exit)) (now (entries .exit)) r ⌝ }
 {
     let chain = chain_rules::check_chain(image, table, offsets);

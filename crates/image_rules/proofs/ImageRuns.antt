@@ -11,7 +11,7 @@ use lib.Dec.{eqb, ltb}
 use Rattle.pdi_spec.specs.File.{File, partitions, headerAt}
 use Rattle.pdi_spec.specs.Headers.{Table, imageHeaderSize, ImageHeader}
 use Rattle.pdi_spec.specs.Images.{images, imageHeaderAt, imageHeader, ownedUpTo, runStart}
-use Rattle.pdi_spec.specs.ImageRules.{imageChecksumBad, runMisplaced, imagesBad, OwnsRun, OwnRuns}
+use Rattle.pdi_spec.specs.ImageRules.{imageChecksumBad, runMisplaced, imageHeadersBad, OwnsRun, AllOwnRuns}
 use Rattle.pdi_spec.specs.Lists.{anyTrue}
 use Rattle.pdi_spec.specs.Words.{checksum}
 use Rattle.pdi_spec.specs.Laws.Images.{owned-more, owned-grows, runs-kept}
@@ -98,7 +98,7 @@ module _ (f : File) (i : ℕ) where
       }
 
   -- and where the images own runs, none is broken
-  pub own-unbroken : OwnRuns f → 1 ≤ i → i ≤ images f → runBroken f i ≡ false
+  pub own-unbroken : AllOwnRuns f → 1 ≤ i → i ≤ images f → runBroken f i ≡ false
   unfolding runBroken imageChecksumBad runMisplaced anyTrue
   own-unbroken r low high =
       let own = r .each-run i low high in
@@ -132,20 +132,20 @@ module _ (f : File) {owned i : ℕ} (so-far : RunsSoFar f owned i) where
       let t = run-ends f (i + 1) e in
       record { each-run = below-more _ i (so-far .each-run) (run-owned f (i + 1) (t .0)); owned-is = t .1 }
 
-  pub broken : i < images f → runAt f (i + 1) ≡ Run.Broken → imagesBad f ≡ true
+  pub broken : i < images f → runAt f (i + 1) ≡ Run.Broken → imageHeadersBad f ≡ true
   broken l e =
       ⊎-elim (λ t. t)
       (λ t. absurd (never-both (run-broken f (i + 1) e) (own-unbroken f (i + 1) (runs-kept f .0 t) (omega arith) (omega arith))))
-      (either (imagesBad f))
+      (either (imageHeadersBad f))
 
   module _ (all : i ≡ images f) where
     total : owned ≡ ownedUpTo f (images f)
     total = so-far .owned-is ∙ ap (ownedUpTo f) all
 
-    pub not-whole : (owned ≡ partitions f → ⊥) → imagesBad f ≡ true
-    not-whole n = ⊎-elim (λ t. t) (λ t. absurd (n (total ∙ runs-kept f .0 t .add-up))) (either (imagesBad f))
+    pub not-whole : (owned ≡ partitions f → ⊥) → imageHeadersBad f ≡ true
+    not-whole n = ⊎-elim (λ t. t) (λ t. absurd (n (total ∙ runs-kept f .0 t .add-up))) (either (imageHeadersBad f))
 
-    pub whole : owned ≡ partitions f → imagesBad f ≡ false
+    pub whole : owned ≡ partitions f → imageHeadersBad f ≡ false
     whole e =
         runs-kept f .1
         (record {

@@ -15,7 +15,7 @@ use Rattle.chain_rules.specs.Chain.{IsTable, fileOf}
 use Rattle.image_rules.specs.declared.runs.Run.{Run}
 
 -- t is the image's table, and its image headers, at most 32, lie all inside the image; images are counted from 1
-pub record ImagesInside (bytes : List ℕ) (t : TableHeader) : Type 0 where
+pub record ImageHeadersInside (bytes : List ℕ) (t : TableHeader) : Type 0 where
   pub own : IsTable bytes t
   pub few : t .images ≤ mostImages
   pub inside : (i : ℕ) → i < t .images → imageHeaderAt (fileOf bytes t) (i + 1) + imageHeaderSize ≤ length bytes

@@ -2,13 +2,13 @@
 ghost use mathlib.Core.Path.{_≡_};
 ghost use Rattle.pdi_spec.specs.Images.{ownerImage};
 ghost use Rattle.chain_rules.specs.Chain.{fileOf};
-ghost use Rattle.image_rules.specs.Runs.{ImagesInside};
+ghost use Rattle.image_rules.specs.Runs.{ImageHeadersInside};
 use crate::runs::image_header_at;
 use headers::TableHeader;
 
 // The first image that owns p partitions together with those before it, counted from 1; 0 where none does. 32 counts fit in 64 bits.
 pub fn owner_of(image: &[u8], table: TableHeader, p: usize) -> u64
-    requires { ⌜ ImagesInside (now image) table ⌝ }
+    requires { ⌜ ImageHeadersInside (now image) table ⌝ }
     ensures { λ r. ⌜ r ≡ ownerImage (fileOf (now (image .entry)) table) p ⌝ }
 {
     let images = table.images as usize;

@@ -9,7 +9,7 @@ ghost use Rattle.pdi_spec.specs.Verdict.{verdict};
 ghost use Rattle.headers.specs.Headers.{imageHeaderOf};
 ghost use Rattle.chain_rules.specs.Answers.{answerOf};
 ghost use Rattle.chain_rules.specs.Chain.{Chain, fileOf};
-ghost use Rattle.image_rules.specs.Runs.{ImagesInside, runAt};
+ghost use Rattle.image_rules.specs.Runs.{ImageHeadersInside, runAt};
 use chain_rules::Answer;
 use headers::ImageHeader;
 use headers::MOST_PARTITIONS;
@@ -25,7 +25,7 @@ pub enum Run {
 
 // The header of image i + 1.
 pub(crate) fn image_header_at(image: &[u8], table: TableHeader, i: usize) -> ImageHeader
-    requires inside { ⌜ ImagesInside (now image) table ⌝ }
+    requires inside { ⌜ ImageHeadersInside (now image) table ⌝ }
     requires counted { ⌜ i < table .images ⌝ }
     ensures { λ r. ⌜ imageHeaderOf r ≡ imageHeader (fileOf (now (image .entry)) table) (i + 1) ⌝ }
 {
@@ -44,7 +44,7 @@ fn run_at(
     owned: usize,
 ) -> Run
     requires chain { ⌜ Chain (now image) table (now offsets) ⌝ }
-    requires inside { ⌜ ImagesInside (now image) table ⌝ }
+    requires inside { ⌜ ImageHeadersInside (now image) table ⌝ }
     requires counted { ⌜ i < table .images ⌝ }
     requires before { ⌜ owned ≡ ownedUpTo (fileOf (now image) table) i ⌝ }
     ensures { λ r. ⌜ r ≡ runAt (fileOf (now (image .entry)) table) (i + 1) ⌝ }
@@ -66,7 +66,7 @@ fn run_at(
 // Rule 20.
 pub fn check_images(image: &[u8], table: TableHeader, offsets: &[usize; MOST_PARTITIONS]) -> Answer
     requires chain { ⌜ Chain (now image) table (now offsets) ⌝ }
-    requires inside { ⌜ ImagesInside (now image) table ⌝ }
+    requires inside { ⌜ ImageHeadersInside (now image) table ⌝ }
     ensures { λ r. ⌜ r ≡ answerOf (verdict (rule20 ∷ []) (fileOf (now (image .entry)) table)) ⌝ }
 {
     let images = table.images as usize;

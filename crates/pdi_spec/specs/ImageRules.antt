@@ -20,8 +20,8 @@ runMisplaced f i = not (eqb (4 * imageHeader f i .firstHeaderOffset) (headerAt f
 
 -- 20: "each count is at least 1, the counts add up to N, and each word 0 gives its run's first header"; "20, any of this broken". Where a
 -- run would start past header N, a clause before the last is broken, so no such header is looked at.
-unfoldable pub imagesBad : File → Bool
-imagesBad f =
+unfoldable pub imageHeadersBad : File → Bool
+imageHeadersBad f =
     anyTrue
     (anyOf (λ (i : ℕ). imageChecksumBad (f .bytes) (imageHeader f i)) (imageNumbers f)
     ∷ anyOf (λ (i : ℕ). ltb (imageHeader f i .partitions) 1) (imageNumbers f)
@@ -35,6 +35,6 @@ pub record OwnsRun (f : File) (i : ℕ) : Type 0 where
   pub owns-some : 1 ≤ imageHeader f i .partitions
   pub starts : 4 * imageHeader f i .firstHeaderOffset ≡ headerAt f (runStart f i)
 
-pub record OwnRuns (f : File) : Type 0 where
+pub record AllOwnRuns (f : File) : Type 0 where
   pub each-run : (i : ℕ) → 1 ≤ i → i ≤ images f → OwnsRun f i
   pub add-up : ownedUpTo f (images f) ≡ partitions f

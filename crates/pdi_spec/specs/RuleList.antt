@@ -8,7 +8,7 @@ use Rattle.pdi_spec.specs.Headers.{Table, Header}
 use Rattle.pdi_spec.specs.File.{File, table, header}
 use Rattle.pdi_spec.specs.Verdict.{Rule, once, each, eachAndTable}
 use Rattle.pdi_spec.specs.Rules.{imageTooLong, bufferTooShort, tableOutside, tableChecksumWrong, kindUnknown, tableFieldsBad, tableKeyUnknown, bootHeaderWrong, imageHeadersOutside, chainBroken, headerChecksumBad, attributesBad, keyUnknown, lengthsBad, spanOutside, loadAddressBad, hashBlockWrong, storedRangesClash, loadRangesClash}
-use Rattle.pdi_spec.specs.ImageRules.{imagesBad}
+use Rattle.pdi_spec.specs.ImageRules.{imageHeadersBad}
 
 -- a condition on the table, alone or with the image's bytes
 abbrev pub ofTable : (Table → Bool) → File → Bool
@@ -86,7 +86,7 @@ rule19 = each 19 loadRangesClash
 
 -- document 02, CR 1
 abbrev pub rule20 : Rule
-rule20 = once 20 imagesBad
+rule20 = once 20 imageHeadersBad
 
 -- ---- lists of them
 

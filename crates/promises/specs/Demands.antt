@@ -13,7 +13,7 @@ use Rattle.pdi_spec.specs.Bench.{Case, seen, starred}
 use Rattle.pdi_spec.specs.File.{File, table, partitions, partitionNumbers, header, hashBlock}
 use Rattle.pdi_spec.specs.HashBlock.{noBlock, entriesIn}
 use Rattle.pdi_spec.specs.Host.{hostNumbers, hostAnswer, hostRows}
-use Rattle.pdi_spec.specs.ImageRules.{OwnRuns}
+use Rattle.pdi_spec.specs.ImageRules.{AllOwnRuns}
 use Rattle.pdi_spec.specs.Lists.{numbers, sumOf}
 use Rattle.pdi_spec.specs.Loading.{Memory, Feed, target, load, Whole, addressesWritten, Loaded}
 use Rattle.pdi_spec.specs.Ranges.{loadsTo}
@@ -67,7 +67,7 @@ pub record Acceptance : Type 0 where
   -- With rules 1 to 19 kept, 20 exactly when the images don't own runs of the chain.
   pub image-runs : (image : List ℕ) (place : ℕ) (rows : List ℕ)
       → Keeps (withRows (length rows) (readingRules ++ clashRules)) (asked image place)
-      → (readAnswer image place rows ≡ 64 * 20) ↔ (OwnRuns (asked image place) → ⊥)
+      → (readAnswer image place rows ≡ 64 * 20) ↔ (AllOwnRuns (asked image place) → ⊥)
   -- A buffer that is too short gives number 1 for an image that is too long, and else 2.
   pub short : (image : List ℕ) (place : ℕ) (rows : List ℕ) → length rows < 260
       → readAnswer image place rows ≡ 64 * cond (imageTooLong (asked image place)) 1 2
@@ -91,7 +91,7 @@ pub record Acceptance : Type 0 where
       × (hostAnswer image place bytes / 64 ≡ 19 → SmallestMeeting (asked image place) (hostAnswer image place bytes % 64))
   pub host-image-runs : (image : List ℕ) (place : ℕ) (bytes : List ℕ)
       → Keeps (withHostRows (length bytes) (readingRules ++ clashRules)) (asked image place)
-      → (hostAnswer image place bytes ≡ 64 * 20) ↔ (OwnRuns (asked image place) → ⊥)
+      → (hostAnswer image place bytes ≡ 64 * 20) ↔ (AllOwnRuns (asked image place) → ⊥)
   -- Document 01's starred cases, 16 of them, answer, write and bill as it says.
   pub cases : (length starred ≡ 16) × (map seen starred ≡ map (λ (c : Case). c .says) starred)
 

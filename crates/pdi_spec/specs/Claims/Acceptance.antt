@@ -5,7 +5,7 @@ use mathlib.Core.List.{List, List·Mem, Pairwise}
 use mathlib.Core.Logic.{_↔_}
 use mathlib.Core.Path.{_≡_}
 use lib.ListN.{length}
-use Rattle.pdi_spec.specs.{Limits.mostImages, Limits.mostPartitions, Limits.bufferNumbers, Limits.bufferBytes, Headers.imageHeaderWordsOf, ImageRules.OwnRuns, File.File, File.table, File.partitions, File.header, Ranges.loadAddressOf, Ranges.loads, Verdict.Rule, Verdict.accepted, Verdict.refused, Verdict.verdict, Verdict.Kept, Verdict.Keeps, Verdict.FirstRefusal, RuleList.rule6, RuleList.rule20, RuleList.rule14, RuleList.rule15, RuleList.rule16, RuleList.plainRules, RuleList.withoutBuffer, RuleList.withBuffer, Answers.asked, Answers.readAnswer, Host.hostAnswer}
+use Rattle.pdi_spec.specs.{Limits.mostImages, Limits.mostPartitions, Limits.bufferNumbers, Limits.bufferBytes, Headers.imageHeaderWordsOf, ImageRules.AllOwnRuns, File.File, File.table, File.partitions, File.header, Ranges.loadAddressOf, Ranges.loads, Verdict.Rule, Verdict.accepted, Verdict.refused, Verdict.verdict, Verdict.Kept, Verdict.Keeps, Verdict.FirstRefusal, RuleList.rule6, RuleList.rule20, RuleList.rule14, RuleList.rule15, RuleList.rule16, RuleList.plainRules, RuleList.withoutBuffer, RuleList.withBuffer, Answers.asked, Answers.readAnswer, Host.hostAnswer}
 use Rattle.pdi_spec.specs.Laws.{Plain.plain}
 use Rattle.pdi_spec.specs.Laws
 
@@ -44,7 +44,7 @@ pub image-headers-stated : (f : File) → Kept rule6 f → imageHeaderWordsOf (t
 image-headers-stated = Laws.Kept.image-headers-stated
 
 -- Rule 20 is kept exactly where every image owns its run of the chain and the runs are the whole chain.
-pub runs-stated : (f : File) → Kept rule20 f ↔ OwnRuns f
+pub runs-stated : (f : File) → Kept rule20 f ↔ AllOwnRuns f
 runs-stated = Laws.Images.runs-stated
 
 -- Rule 14 asks that 1 ≤ U ≤ E ≤ T, and for no actual size over its total.

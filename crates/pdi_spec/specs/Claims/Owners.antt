@@ -1,12 +1,12 @@
 -- Claims of document 02, CR 1: which answers are 20; and of owner's answer, for every image and place, where it is 0, and which partitions
 -- each image of an accepted one owns. Assumes nothing.
 use Prim.Native.Nat.{ℕ, _*_, _≤_, _<_}
-use mathlib.Core.List.{List, _++_, map}
+use mathlib.Core.List.{List, _∷_, _++_, map, List·Mem}
 use mathlib.Core.Logic.{_↔_, _⊎_}
 use mathlib.Core.Path.{_≡_}
 use lib.Dec.{eqb}
 use lib.ListN.{length}
-use Rattle.pdi_spec.specs.{Limits.bufferNumbers, Limits.bufferBytes, Limits.answerUnit, Lists.numbers, Lists.sumOf, Lists.countOf, Lists.First, File.File, File.partitions, File.partitionNumbers, File.header, Images.images, Images.imageHeader, Images.ownedUpTo, Images.InRun, ImageRules.OwnRuns, Verdict.Keeps, RuleList.readingRules, RuleList.clashRules, RuleList.withRows, RuleList.withHostRows, Answers.asked, Answers.readBy, Host.hostReadBy, Host.hostAnswer, Answers.readAnswer, Answers.ownerAnswer}
+use Rattle.pdi_spec.specs.{Limits.bufferNumbers, Limits.bufferBytes, Limits.answerUnit, Lists.numbers, Lists.sumOf, Lists.countOf, Lists.First, File.File, File.partitions, File.partitionNumbers, File.header, Images.images, Images.imageHeader, Images.ownedUpTo, Images.InRun, ImageRules.AllOwnRuns, Verdict.Rule, Verdict.refused, Verdict.verdict, Verdict.Keeps, RuleList.rule20, RuleList.readingRules, RuleList.clashRules, RuleList.withRows, RuleList.withHostRows, Answers.asked, Answers.readBy, Host.hostReadBy, Host.hostAnswer, Answers.readAnswer, Answers.ownerAnswer}
 use Rattle.pdi_spec.specs.Laws.{Plain.plain}
 use Rattle.pdi_spec.specs.Laws
 
@@ -14,17 +14,23 @@ use Rattle.pdi_spec.specs.Laws
 pub owned-sum : (f : File) (i : ℕ) → ownedUpTo f i ≡ sumOf (map (λ (k : ℕ). imageHeader f k .partitions) (numbers 1 i))
 owned-sum = Laws.Images.owned-sum
 
+-- With the rules before 20 kept, and only higher numbers after it: refused with 20 exactly where the images don't own runs of the chain,
+-- and then with p = 0.
+pub refused-20 : (f : File) (before after : List Rule) → Keeps before f → ((r : Rule) → List·Mem r after → 20 < r .number)
+    → (p : ℕ) → (verdict (before ++ (rule20 ∷ after)) f ≡ refused 20 p) ↔ ((AllOwnRuns f → ⊥) × (p ≡ 0))
+refused-20 = Laws.ImageVerdict.refused-20
+
 -- The host's call, with rules 1 to 19 kept: 64 × 20 exactly where the images don't own runs of the chain ..
 pub host-runs : (image : List ℕ) (place : ℕ) (bytes : List ℕ)
     → Keeps (withHostRows (length bytes) (readingRules ++ clashRules)) (asked image place)
-    → (hostAnswer image place bytes ≡ answerUnit * 20) ↔ (OwnRuns (asked image place) → ⊥)
+    → (hostAnswer image place bytes ≡ answerUnit * 20) ↔ (AllOwnRuns (asked image place) → ⊥)
 unfolding hostReadBy withHostRows
 host-runs image place bytes = Laws.ImageVerdict.answers-20 bufferBytes (length bytes) (asked image place)
 
 module _ (image : List ℕ) (place : ℕ) (rows : List ℕ) where
   -- .. and so it is of read.
   pub read-runs : Keeps (withRows (length rows) (readingRules ++ clashRules)) (asked image place)
-      → (readAnswer image place rows ≡ answerUnit * 20) ↔ (OwnRuns (asked image place) → ⊥)
+      → (readAnswer image place rows ≡ answerUnit * 20) ↔ (AllOwnRuns (asked image place) → ⊥)
   unfolding readBy withRows
   read-runs = Laws.ImageVerdict.answers-20 bufferNumbers (length rows) (asked image place)
 

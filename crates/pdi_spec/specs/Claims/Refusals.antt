@@ -2,7 +2,7 @@
 use Prim.Native.Nat.{ℕ, _/_, _%_, _≤_, _<_}
 use mathlib.Core.List.{List, [], _∷_, map, List·Mem}
 use mathlib.Core.Path.{_≡_}
-use Rattle.pdi_spec.specs.{Limits.mostPartitions, Limits.answerUnit, Limits.lastRule, Lists.numbers, File.File, Verdict.Rule, Verdict.refused, Verdict.verdict, RuleList.plainRules, RuleList.withoutBuffer, RuleList.withBuffer, RuleList.withRows, RuleList.withHostRows, Answers.answer, Answers.rowsAfter, Answers.billUnder, Answers.bodyUnder}
+use Rattle.pdi_spec.specs.{Limits.mostPartitions, Limits.answerUnit, Limits.lastRule, Lists.numbers, File.File, Verdict.Rule, Verdict.refused, Verdict.verdict, RuleList.plainRules, RuleList.withoutBuffer, RuleList.withBuffer, RuleList.withRows, RuleList.withHostRows, Answers.answer, Answers.rowsAfter, Answers.billUnder, Answers.bodyUnder, Answers.ownerUnder}
 use Rattle.pdi_spec.specs.Laws
 
 -- A refusal's number is that of a rule of the list, which is tried at the refusal's p.
@@ -49,3 +49,7 @@ refusal-bills-nothing = Laws.Answers.bill-refused
 -- It has no body.
 pub refusal-has-no-body : (rs : List Rule) (f : File) (k p : ℕ) → verdict rs f ≡ refused k p → (q : ℕ) → bodyUnder rs f q ≡ []
 refusal-has-no-body = Laws.Answers.body-refused
+
+-- And no partition has an owner.
+pub refusal-has-no-owner : (rs : List Rule) (f : File) (k p : ℕ) → verdict rs f ≡ refused k p → (q : ℕ) → ownerUnder rs f q ≡ 0
+refusal-has-no-owner = Laws.Owners.owner-refused

@@ -10,7 +10,7 @@ use mathlib.Core.Option.{Option, none, some, Option·elim}
 use mathlib.Core.Path.{_≡_, refl, sym, _∙_, ap}
 use lib.Dec.{leb, ltb, eqb}
 use borrow.Author.Tests.{ltb-false, le-ltb, leb-true, leb-false, le-leb}
-use Rattle.pdi_spec.specs.{Lists.numbers, Lists.sumOf, Lists.anyTrue, Lists.anyOf, Lists.firstOf, Lists.First, File.File, File.partitions, Images.images, Images.imageNumbers, Images.imageHeader, Images.ownedUpTo, Images.InRun, Images.ownerImage, Verdict.once, Verdict.Kept, RuleList.rule20, ImageRules.imageChecksumBad, ImageRules.runMisplaced, ImageRules.imagesBad, ImageRules.OwnsRun, ImageRules.OwnRuns}
+use Rattle.pdi_spec.specs.{Lists.numbers, Lists.sumOf, Lists.anyTrue, Lists.anyOf, Lists.firstOf, Lists.First, File.File, File.partitions, Images.images, Images.imageNumbers, Images.imageHeader, Images.ownedUpTo, Images.InRun, Images.ownerImage, Verdict.once, Verdict.Kept, RuleList.rule20, ImageRules.imageChecksumBad, ImageRules.runMisplaced, ImageRules.imageHeadersBad, ImageRules.OwnsRun, ImageRules.AllOwnRuns}
 use Rattle.pdi_spec.specs.Laws.{Lists.sum-more, Tests.equal-told, Tests.equal-tells, Tests.false-at, Tests.none-entry, Tests.entry-none, Tests.or-both, Tests.never-both, Tests.mem-numbers, Tests.numbers-mem, Kept.kept-once, Firsts.first-mem, Firsts.first-none, Firsts.first-some, Firsts.first-smallest}
 
 module _ (f : File) where
@@ -66,7 +66,7 @@ module _ (f : File) where
   clauses =
       anyOf wrongSum (imageNumbers f) ∷ anyOf ownsNone (imageNumbers f) ∷ otherTotal ∷ anyOf (runMisplaced f) (imageNumbers f) ∷ []
 
-  none-broken : anyTrue clauses ≡ false → OwnRuns f
+  none-broken : anyTrue clauses ≡ false → AllOwnRuns f
   unfolding imageChecksumBad runMisplaced
   none-broken e =
       record {
@@ -78,7 +78,7 @@ module _ (f : File) where
         add-up = equal-told _ _ (false-at clauses e 2);
       }
 
-  all-kept : OwnRuns f → anyTrue clauses ≡ false
+  all-kept : AllOwnRuns f → anyTrue clauses ≡ false
   unfolding imageChecksumBad runMisplaced anyTrue
   all-kept r =
       let run : (i : ℕ) → List·Mem i (imageNumbers f) → OwnsRun f i = λ i m. let b = bounds i m in r .each-run i (b .0) (b .1) in
@@ -88,13 +88,13 @@ module _ (f : File) where
       (or-both _ false (entry-none (runMisplaced f) (imageNumbers f) (λ i m. equal-tells _ _ (run i m .starts))) refl)))
 
   -- it is kept exactly where the images own runs of the chain
-  pub runs-kept : (imagesBad f ≡ false) ↔ OwnRuns f
-  unfolding imagesBad
+  pub runs-kept : (imageHeadersBad f ≡ false) ↔ AllOwnRuns f
+  unfolding imageHeadersBad
   runs-kept = (none-broken, all-kept)
 
-  pub runs-stated : Kept rule20 f ↔ OwnRuns f
+  pub runs-stated : Kept rule20 f ↔ AllOwnRuns f
   unfolding Kept once
-  runs-stated = (λ k. runs-kept .0 (kept-once 20 imagesBad f k), λ r p m. runs-kept .1 r)
+  runs-stated = (λ k. runs-kept .0 (kept-once 20 imageHeadersBad f k), λ r p m. runs-kept .1 r)
 
   -- ---- the run that a partition lies in
 
@@ -119,7 +119,7 @@ module _ (f : File) where
         | no m ↦ omega arith
       ]
 
-  module _ (r : OwnRuns f) where
+  module _ (r : AllOwnRuns f) where
     -- a partition of a run is one of the chain
     pub run-in-chain : (i p : ℕ) → InRun f i p → (1 ≤ p) × (p ≤ partitions f)
     run-in-chain i p a =

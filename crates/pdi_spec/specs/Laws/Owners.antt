@@ -10,7 +10,7 @@ use mathlib.Core.Path.{_≡_, sym, _∙_, ap, subst}
 use lib.Dec.{eqb}
 use lib.ListN.{length}
 use borrow.Author.Tests.{eq-eqb, ne-eqb}
-use Rattle.pdi_spec.specs.{Limits.bufferNumbers, Lists.countOf, Lists.First, File.File, File.partitions, File.partitionNumbers, File.header, Headers.headerFrom, Images.images, Images.imageHeader, Images.ownedUpTo, Images.runStart, Images.InRun, Images.ownerImage, ImageRules.imagesBad, ImageRules.OwnRuns, Ranges.Range, Ranges.endOf, Ranges.within, Verdict.Rule, Verdict.accepted, Verdict.refused, Verdict.verdict, RuleList.withoutBuffer, RuleList.withRows, Answers.asked, Answers.ownerUnder, Answers.ownerBy, Answers.readBy, Supported.Supported}
+use Rattle.pdi_spec.specs.{Limits.bufferNumbers, Lists.countOf, Lists.First, File.File, File.partitions, File.partitionNumbers, File.header, Headers.headerFrom, Images.images, Images.imageHeader, Images.ownedUpTo, Images.runStart, Images.InRun, Images.ownerImage, ImageRules.imageHeadersBad, ImageRules.AllOwnRuns, Ranges.Range, Ranges.endOf, Ranges.within, Verdict.Rule, Verdict.accepted, Verdict.refused, Verdict.verdict, RuleList.withoutBuffer, RuleList.withRows, Answers.asked, Answers.ownerUnder, Answers.ownerBy, Answers.readBy, Supported.Supported}
 use Rattle.pdi_spec.specs.Laws.{Tests.either, Tests.never-both, Tests.is-not-true, Tests.within-bounds, Tests.bounds-within, Tests.numbers-mem, Counts.range-count, Counts.count-same, Firsts.first-some, Firsts.smallest-first, Kept.kept-once, Verdict.accepted-kept, Refusals.answer-refused, Refusals.with-room, Images.owned-more, Images.owned-grows, Images.runs-kept, Images.run-in-chain, Images.runs-ascend, Images.owner-in-run, Images.owner-is, Partitions.refused-gives, Partitions.other-gives, Partitions.accepted-gives, Answers.listed, Answers.read-accepts}
 
 pub owner-refused : (rs : List Rule) (f : File) (k q : ℕ) → verdict rs f ≡ refused k q → (p : ℕ) → ownerUnder rs f p ≡ 0
@@ -41,8 +41,8 @@ module _ {own : List Rule} (s : Supported own) (image : List ℕ) (place : ℕ) 
   -- ---- of an accepted image
 
   module _ (v : verdict (withoutBuffer own) (asked image place) ≡ accepted) where
-    pub runs : OwnRuns (asked image place)
-    runs = runs-kept f .0 (kept-once 20 imagesBad f (accepted-kept (withoutBuffer own) f v (listed s image place (s .images))))
+    pub runs : AllOwnRuns (asked image place)
+    runs = runs-kept f .0 (kept-once 20 imageHeadersBad f (accepted-kept (withoutBuffer own) f v (listed s image place (s .images))))
 
     pub in-run : (p : ℕ) → 1 ≤ p → p ≤ partitions (asked image place) → InRun (asked image place) (ownerBy own image place p) p
     unfolding ownerBy

@@ -38,7 +38,7 @@ module _ {own : List Rule} (s : Supported own) (least have : ℕ) (f : File) whe
   zero-exactly = (λ e. accepted-keeps list f (zero-accepted s least have f e), λ k. ap answer (keeps-accepted list f k))
 
   -- a refusal that was answered, with its number and p
-  refusal : (k p : ℕ) → p < answerUnit → 1 ≤ k → answer (verdict (withBuffer least have own) f) ≡ answerUnit * k + p
+  pub refusal : (k p : ℕ) → p < answerUnit → 1 ≤ k → answer (verdict (withBuffer least have own) f) ≡ answerUnit * k + p
       → verdict (withBuffer least have own) f ≡ refused k p
   unfolding answer
   refusal k p h l e =
