@@ -15,6 +15,7 @@ use Rattle.pdi_spec.specs.RuleList.{tableRules}
 use Rattle.pdi_spec.specs.Rules.{imageTooLong}
 use Rattle.pdi_spec.specs.Verdict.{Rule, once, Outcome, accepted, refused, verdict}
 use Rattle.pdi_spec.specs.Laws.Kept.{counts-stated, image-header-inside}
+use Rattle.pdi_spec.specs.Laws.Once.{once-broken, once-kept}
 use Rattle.pdi_spec.specs.Laws.Refusals.{table-p, table-counts, table-parts}
 use Rattle.pdi_spec.specs.Laws.Verdict.{andThen, verdict-append, accepted-kept}
 use Rattle.headers.specs.Headers.{tableOf}
@@ -27,7 +28,7 @@ use Rattle.chain_rules.specs.declared.Answer.{Answer}
 use Rattle.image_rules.specs.Runs.{ImageHeadersInside}
 use Rattle.core.specs.Readings.{coreRules, outcomeOf, Held, CoreAnswer}
 use Rattle.core.specs.declared.Reading.{Reading}
-use Rattle.core.proofs.Stages.{kept-accepts, refused-refuses, once-broken, once-kept}
+use Rattle.core.proofs.Stages.{kept-accepts, refused-refuses}
 
 -- ---- the two kinds of answers
 
@@ -54,18 +55,18 @@ module _ {bytes : List ℕ} {place : ℕ} {rs : List Rule} {offsets entries : Li
 module _ (bytes : List ℕ) (place : ℕ) (short : Bool) (own : List Rule) where
   pub too-long : longestImage < length bytes → refused 1 0 ≡ verdict (coreRules short own) (asked bytes place)
   unfolding coreRules imageTooLong
-  too-long h = once-broken 1 imageTooLong _ (asked bytes place) (lt-ltb longestImage (length bytes) h)
+  too-long h = sym (once-broken 1 imageTooLong (asked bytes place) _ (lt-ltb longestImage (length bytes) h))
 
   module _ (fits : length bytes ≤ longestImage) where
     first-kept : verdict (coreRules short own) (asked bytes place) ≡ verdict (once 2 (λ f. short) ∷ own) (asked bytes place)
     unfolding coreRules imageTooLong
-    first-kept = once-kept 1 imageTooLong _ (asked bytes place) (le-ltb longestImage (length bytes) fits)
+    first-kept = once-kept 1 imageTooLong (asked bytes place) _ (le-ltb longestImage (length bytes) fits)
 
     pub too-short : short ≡ true → refused 2 0 ≡ verdict (coreRules short own) (asked bytes place)
-    too-short e = once-broken 2 (λ f. short) own (asked bytes place) e ∙ sym first-kept
+    too-short e = sym (first-kept ∙ once-broken 2 (λ f. short) (asked bytes place) own e)
 
     pub passes : short ≡ false → verdict own (asked bytes place) ≡ verdict (coreRules short own) (asked bytes place)
-    passes e = sym (first-kept ∙ once-kept 2 (λ f. short) own (asked bytes place) e)
+    passes e = sym (first-kept ∙ once-kept 2 (λ f. short) (asked bytes place) own e)
 
 -- ---- the table's stage, with any rules after the table's
 

@@ -1,14 +1,11 @@
 -- The stages joined: what their answers say of the whole list of rules. Assumes nothing.
 use Prim.Native.Nat.{ℕ}
 use native.Mathlib.Omega.{arith}
-use mathlib.Core.Bool.{Bool, true, false}
-use mathlib.Core.List.{List, [], _∷_}
-use mathlib.Core.Option.{Option·elim}
+use mathlib.Core.List.{[], _∷_}
 use mathlib.Core.Path.{_≡_, refl, sym, _∙_, ap}
 use Rattle.pdi_spec.specs.File.{File}
-use Rattle.pdi_spec.specs.Lists.{firstOf}
 use Rattle.pdi_spec.specs.RuleList.{rule10, rule17, rule18, rule19, rule20, headerRules, partitionRules, clashRules, imageRules, laterRules}
-use Rattle.pdi_spec.specs.Verdict.{Rule, once, Outcome, accepted, refused, verdict}
+use Rattle.pdi_spec.specs.Verdict.{Outcome, accepted, refused, verdict}
 use Rattle.pdi_spec.specs.Laws.Verdict.{andThen, verdict-append}
 use Rattle.chain_rules.specs.Answers.{answerOf}
 use Rattle.chain_rules.specs.declared.Answer.{Answer}
@@ -52,14 +49,3 @@ later-split f =
     ∙ ap (andThen (verdict (rule17 ∷ []) f))
     (verdict-append (rule18 ∷ []) _ f
     ∙ ap (andThen (verdict (rule18 ∷ []) f)) (verdict-append (rule19 ∷ []) (rule20 ∷ []) f))))
-
--- ---- rules that are tried once, before them
-
-module _ (k : ℕ) (c : File → Bool) (rs : List Rule) (f : File) where
-  pub once-broken : c f ≡ true → refused k 0 ≡ verdict (once k c ∷ rs) f
-  unfolding verdict once firstOf Option·elim
-  once-broken e = rw e refl
-
-  pub once-kept : c f ≡ false → verdict (once k c ∷ rs) f ≡ verdict rs f
-  unfolding verdict once firstOf Option·elim
-  once-kept e = rw e refl

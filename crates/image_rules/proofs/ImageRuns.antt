@@ -1,9 +1,8 @@
 -- Rule 20 along a file's images: what one image's run tells, what the loop keeps after i images, and what it answers. Assumes nothing.
 use Prim.Native.Nat.{ℕ, _+_, _-_, _*_, _≤_, _<_}
 use native.Mathlib.Omega.{arith}
-use mathlib.Core.Bool.{Bool, true, false, not, _||_}
+use mathlib.Core.Bool.{Bool, true, false, not, _||_, or-assoc, or-false}
 use mathlib.Core.List.{List}
-use mathlib.Core.Logic.{⊎-elim}
 use mathlib.Core.Path.{_≡_, refl, sym, _∙_, ap, ap₂, subst}
 use borrow.Author.Count.{below-more}
 use borrow.Author.Tests.{ltb-false, le-ltb, le-leb, lt-leb}
@@ -14,8 +13,8 @@ use Rattle.pdi_spec.specs.Images.{images, imageHeaderAt, imageHeader, ownedUpTo
 use Rattle.pdi_spec.specs.ImageRules.{imageChecksumBad, runMisplaced, imageHeadersBad, OwnsRun, AllOwnRuns}
 use Rattle.pdi_spec.specs.Lists.{anyTrue}
 use Rattle.pdi_spec.specs.Words.{checksum}
-use Rattle.pdi_spec.specs.Laws.Images.{owned-more, owned-grows, runs-kept}
-use Rattle.pdi_spec.specs.Laws.Tests.{either, never-both, or-both, false-at, equal-told, equal-tells}
+use Rattle.pdi_spec.specs.Laws.Images.{owned-more, owned-last, owned-grows, runs-kept, runs-broken}
+use Rattle.pdi_spec.specs.Laws.Tests.{never-both, or-both, false-at, equal-told, equal-tells}
 use Rattle.headers.specs.declared.table.TableHeader.{TableHeader}
 use Rattle.chain_rules.specs.Chain.{IsTable, fileOf}
 use Rattle.image_rules.specs.Runs.{runBroken, runOf, runAt}
@@ -41,10 +40,7 @@ abbrev pub headerTests : ImageHeader → ℕ → ℕ → Bool
 headerTests h sum offset = (not (eqb (h .checksum) sum) || ltb (h .partitions) 1) || not (eqb (4 * h .firstHeaderOffset) offset)
 
 tests-joined : (a b c : Bool) → ((a || b) || c) ≡ (a || (b || (c || false)))
-tests-joined true b c = refl
-tests-joined false true c = refl
-tests-joined false false true = refl
-tests-joined false false false = refl
+tests-joined a b c = or-assoc a b c ∙ ap (λ (x : Bool). a || (b || x)) (sym (or-false c))
 
 module _ (f : File) (i : ℕ) {n : ℕ} (count-is : n ≡ partitions f) {owned : ℕ} (before : owned ≡ ownedUpTo f i) where
   here : ownedUpTo f (i + 1 - 1) ≡ owned
@@ -110,10 +106,7 @@ module _ (f : File) (i : ℕ) where
       -- the images before it own fewer than all
       before : ownedUpTo f (i - 1) < partitions f
       before =
-          let same : i - 1 + 1 ≡ i = omega arith in
-          let more = owned-more f (i - 1) in
-          let some = subst (λ (k : ℕ). 1 ≤ imageHeader f k .partitions) (sym same) (r .each-run i low high .owns-some) in
-          omega (arith, more, some, owned-grows f (i - 1 + 1) (images f) (omega arith), r .add-up)
+          omega (arith, owned-last f i low, r .each-run i low high .owns-some, owned-grows f i (images f) high, r .add-up)
 
 -- ---- the loop
 
@@ -134,16 +127,14 @@ module _ (f : File) {owned i : ℕ} (so-far : RunsSoFar f owned i) where
 
   pub broken : i < images f → runAt f (i + 1) ≡ Run.Broken → imageHeadersBad f ≡ true
   broken l e =
-      ⊎-elim (λ t. t)
-      (λ t. absurd (never-both (run-broken f (i + 1) e) (own-unbroken f (i + 1) (runs-kept f .0 t) (omega arith) (omega arith))))
-      (either (imageHeadersBad f))
+      runs-broken f .1 (λ r. never-both (run-broken f (i + 1) e) (own-unbroken f (i + 1) r (omega arith) (omega arith)))
 
   module _ (all : i ≡ images f) where
     total : owned ≡ ownedUpTo f (images f)
     total = so-far .owned-is ∙ ap (ownedUpTo f) all
 
     pub not-whole : (owned ≡ partitions f → ⊥) → imageHeadersBad f ≡ true
-    not-whole n = ⊎-elim (λ t. t) (λ t. absurd (n (total ∙ runs-kept f .0 t .add-up))) (either (imageHeadersBad f))
+    not-whole n = runs-broken f .1 (λ r. n (total ∙ r .add-up))
 
     pub whole : owned ≡ partitions f → imageHeadersBad f ≡ false
     whole e =

@@ -7,9 +7,9 @@ use mathlib.Core.List.{List}
 use mathlib.Core.Logic.{_⊎_, inl, inr, ⊎-elim}
 use mathlib.Core.Path.{_≡_, refl, sym, _∙_, ap}
 use lib.Dec.{eqb}
-use borrow.Author.Tests.{le-ltb, leb-true, eqb-true, eq-eqb}
+use borrow.Author.Tests.{le-ltb, leb-true, eqb-true, eq-eqb, not-false}
 use Rattle.pdi_spec.specs.Ranges.{Range, endOf, overlap, sameRange}
-use Rattle.pdi_spec.specs.Laws.Tests.{or-cases, and-left, and-right, and-both, not-is-false}
+use Rattle.pdi_spec.specs.Laws.Tests.{or-cases, and-left, and-right, and-both}
 use Rattle.ranges.specs.Range.{endsBefore}
 use Rattle.pairs.specs.Lists.{rangeAt, clashes}
 use Rattle.pairs.specs.Order.{Follows, InOrder, Outside}
@@ -42,7 +42,7 @@ pub outside : (first last a : Range) → not (endsBefore a first || endsBefore l
     → (endOf a ≤ first .start) ⊎ (endOf last ≤ a .start)
 outside first last a e =
     ⊎-elim (λ h. inl (ends-before a first h)) (λ h. inr (ends-before last a h))
-    (or-cases (endsBefore a first) (endsBefore last a) (not-is-false _ e))
+    (or-cases (endsBefore a first) (endsBefore last a) (not-false _ e))
 
 -- ---- in order
 
@@ -51,7 +51,7 @@ pub follows : (equals : Bool) (a b : Range) → not (endsBefore a b || (equals &
 follows equals a b e =
     ⊎-elim (λ h. inl (ends-before a b h))
     (λ h. inr (and-left equals (sameRange a b) h, same-range a b (and-right equals (sameRange a b) h)))
-    (or-cases (endsBefore a b) (equals && sameRange a b) (not-is-false _ e))
+    (or-cases (endsBefore a b) (equals && sameRange a b) (not-false _ e))
 
 pub follows-on : (equals : Bool) (a b d : Range) → Follows equals a b → Follows equals b d → Follows equals a d
 unfolding endOf

@@ -97,3 +97,6 @@ imageHeaderCases =
     -- of two image headers the last byte
     ++ keeps 9 (longer 32 ((0x4 := 2) ∷ (0x8 := behindWord) ∷ []) ∷ [])
     ++ breaks 9 0 (take 463 (longer 32 ((0x4 := 2) ∷ (0x8 := behindWord) ∷ [])) ∷ [])
+    -- and of 32
+    ++ keeps 9 (longer 512 ((0x4 := 32) ∷ (0x8 := behindWord) ∷ []) ∷ [])
+    ++ breaks 9 0 (take 2383 (longer 512 ((0x4 := 32) ∷ (0x8 := behindWord) ∷ [])) ∷ [])

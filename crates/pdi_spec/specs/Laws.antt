@@ -16,6 +16,7 @@ pub mod Inside
 pub mod Kept
 pub mod Lists
 pub mod Loading
+pub mod Once
 pub mod Owners
 pub mod Partitions
 pub mod Plain

@@ -19,6 +19,7 @@ use Rattle.pdi_spec.specs.Supported.{Supported}
 use Rattle.pdi_spec.specs.Verdict.{Rule, once, accepted, refused, verdict}
 use Rattle.pdi_spec.specs.Laws.Answers.{bill-accepted, bill-refused, part-accepted, part-none, part-refused}
 use Rattle.pdi_spec.specs.Laws.Kept.{lengths-stated, span-stated}
+use Rattle.pdi_spec.specs.Laws.Once.{once-kept}
 use Rattle.pdi_spec.specs.Laws.Owners.{owner-refused, owner-none, owner-accepted}
 use Rattle.pdi_spec.specs.Laws.Refusals.{buffer-accepts, refusal-below, refusal-p}
 use Rattle.pdi_spec.specs.Laws.Rows.{after-accepted, after-refused}
@@ -29,14 +30,13 @@ use Rattle.chain_rules.proofs.Counts.{counted}
 use Rattle.core.specs.Readings.{coreRules, outcomeOf, Held, CoreAnswer}
 use Rattle.rows.specs.Rows.{overwritten}
 use Rattle.core.specs.declared.Reading.{Reading}
-use Rattle.core.proofs.Stages.{once-kept}
 
 -- ---- the lists
 
 -- without a buffer rule 2 is never broken
 without-buffer : (own : List Rule) (f : File) → verdict (coreRules false own) f ≡ verdict (withoutBuffer own) f
 unfolding coreRules withoutBuffer
-without-buffer own f = verdict-after rule1 (once 2 (λ g. false) ∷ own) own f (once-kept 2 (λ g. false) own f refl)
+without-buffer own f = verdict-after rule1 (once 2 (λ g. false) ∷ own) own f (once-kept 2 (λ g. false) f own refl)
 
 -- with one it is broken where the buffer is short
 with-rows : (own : List Rule) (n : ℕ) (f : File) → verdict (coreRules (ltb n bufferNumbers) own) f ≡ verdict (withRows n own) f

@@ -2,14 +2,14 @@
 -- under higher numbers. Assumes nothing.
 use Prim.Native.Nat.{ℕ, _≤_, _<_}
 use native.Mathlib.Omega.{arith}
-use mathlib.Core.Bool.{true, false}
+use mathlib.Core.Bool.{false}
 use mathlib.Core.List.{List, _∷_, _++_, List·Mem, eq-or-mem-of-mem-cons}
 use mathlib.Core.Logic.{_↔_, ⊎-elim, Or·elim}
 use native.Mathlib.Bridge.{le-prop}
 use mathlib.Core.Option.{Option, none, some}
 use mathlib.Core.Path.{_≡_, refl, sym, _∙_, ap}
 use Rattle.pdi_spec.specs.{Lists.numbers, Lists.firstOf, Lists.First, File.File, File.partitions, File.partitionNumbers, File.header, Rules.storedRangesClash, Rules.loadRangesClash, Rules.loadAddressBad, RuleList.ofHeader, RuleList.tableRules, RuleList.headerRules, RuleList.partitionRules, RuleList.readingRules, Twice.PositionTwice, Twice.MeetsEarlier, Twice.AddressTwice, Twice.SmallestMeeting, Verdict.Rule, Verdict.once, Verdict.each, Verdict.eachAndTable, Verdict.refused, Verdict.verdict, Verdict.Kept, Verdict.Keeps}
-use Rattle.pdi_spec.specs.Laws.{Tests.either, Tests.never-both, Tests.is-not-true, Tests.mem-numbers, Tests.numbers-mem, Firsts.first-mem, Firsts.first-none, Firsts.first-some, Firsts.first-smallest, Firsts.smallest-first, Verdict.verdict-broken, Verdict.verdict-kept, Verdict.verdict-skip, Verdict.no-such-number, Verdict.refused-number, Verdict.refused-p, Kept.kept-each, Inside.reading-kept, Clash.twice-clash, Clash.clash-twice, Clash.meets-clash, Clash.clash-meets}
+use Rattle.pdi_spec.specs.Laws.{Tests.either, Tests.never-both, Tests.is-not-true, Tests.mem-numbers, Tests.numbers-mem, Firsts.first-mem, Firsts.first-none, Firsts.first-some, Firsts.first-smallest, Firsts.smallest-first, Verdict.verdict-broken, Verdict.verdict-kept, Verdict.no-such-number, Verdict.refused-number, Verdict.refused-p, Once.broken-here, Once.kept-here, Once.once-exactly, Kept.kept-each, Inside.reading-kept, Clash.twice-clash, Clash.clash-twice, Clash.meets-clash, Clash.clash-meets}
 
 module _ (f : File) (before after : List Rule) (kept : Keeps before f) (headers : Keeps readingRules f)
     (high : (r : Rule) → List·Mem r after → 19 < r .number) where
@@ -19,17 +19,8 @@ module _ (f : File) (before after : List Rule) (kept : Keeps before f) (headers 
   abbrev fromStored : List Rule
   fromStored = once 18 storedRangesClash ∷ fromLoads
 
-  -- ---- where rule 18 is broken, and where it is kept
-
-  stored-broken : storedRangesClash f ≡ true → verdict (before ++ fromStored) f ≡ refused 18 0
-  unfolding once firstOf
-  stored-broken e =
-      verdict-skip before fromStored f kept ∙ verdict-broken (once 18 storedRangesClash) fromLoads f 0 (rw e refl)
-
   stored-kept : storedRangesClash f ≡ false → verdict (before ++ fromStored) f ≡ verdict fromLoads f
-  unfolding once Kept
-  stored-kept e =
-      verdict-skip before fromStored f kept ∙ verdict-kept (once 18 storedRangesClash) fromLoads f (λ p m. e)
+  stored-kept = kept-here 18 storedRangesClash f before fromLoads kept
 
   later-high : (k : ℕ) → k < 19 → (r : Rule) → List·Mem r fromLoads → k < r .number
   unfolding each
@@ -39,13 +30,11 @@ module _ (f : File) (before after : List Rule) (kept : Keeps before f) (headers 
   -- ---- refused with 18
 
   pub refused-18 : (p : ℕ) → (verdict (before ++ fromStored) f ≡ refused 18 p) ↔ (PositionTwice f × (p ≡ 0))
-  refused-18 p = (
-    λ e.
-        ⊎-elim (λ h. (clash-twice f headers h, refused-p (sym e ∙ stored-broken h)))
-        (λ h. absurd (no-such-number fromLoads f 18 p (later-high 18 (omega arith)) (sym (stored-kept h) ∙ e)))
-        (either (storedRangesClash f)),
-    λ t. stored-broken (twice-clash f (t .0 .position) (t .0 .lies)) ∙ ap (refused 18) (sym (t .1)),
-  )
+  refused-18 p =
+      let law = once-exactly 18 storedRangesClash f before fromLoads kept (later-high 18 (omega arith)) p in (
+        λ e. let t = law .0 e in (clash-twice f headers (t .0), t .1),
+        λ t. law .1 (twice-clash f (t .0 .position) (t .0 .lies), t .1),
+      )
 
   -- ---- refused with 19
 
@@ -102,7 +91,7 @@ module _ (f : File) (before after : List Rule) (kept : Keeps before f) (headers 
   pub refused-19 : (p : ℕ) → (verdict (before ++ fromStored) f ≡ refused 19 p) ↔ ((PositionTwice f → ⊥) × SmallestMeeting f p)
   refused-19 p = (
     λ e.
-        ⊎-elim (λ h. absurd (omega (arith, refused-number (sym (stored-broken h) ∙ e))))
+        ⊎-elim (λ h. absurd (omega (arith, refused-number (sym (broken-here 18 storedRangesClash f before fromLoads kept h) ∙ e))))
         (λ h. (no-position h, smallest-of p (first-meeting p (sym (stored-kept h) ∙ e)))) (either (storedRangesClash f)),
     λ t. stored-kept (no-clash (t .0)) ∙ loads-broken p (first-of p (t .1)),
   )

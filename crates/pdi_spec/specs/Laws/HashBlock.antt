@@ -8,10 +8,9 @@ use mathlib.Core.List.{List, [], _∷_, List·Mem, mem-cons-self, mem-cons-of-me
 use mathlib.Core.Logic.{⊎-elim, Or·elim}
 use mathlib.Core.Option.{some, Option·elim}
 use mathlib.Core.Path.{_≡_, refl}
-use lib.Dec.{eqb}
-use borrow.Author.Tests.{not-false, eqb-true, eq-eqb}
+use borrow.Author.Tests.{eqb-true, eq-eqb}
 use Rattle.pdi_spec.specs.{Lists.numbers, Lists.anyOf, Lists.countOf, Lists.firstOf, Headers.Block, File.File, File.hashBlock, Words.wordAt, HashBlock.noBlock, HashBlock.sizeOfEntries, HashBlock.entriesIn, HashBlock.entryAt, HashBlock.hasIndex, HashBlock.entryNumbers, HashBlock.ownEntries, HashBlock.hashEntryIn, Rules.hashBlockBad, Rules.hashBlockWrong}
-use Rattle.pdi_spec.specs.Laws.{Tests.either, Tests.or-both, Tests.never-both, Tests.false-at, Tests.mem-numbers, Tests.numbers-mem, Tests.none-entry}
+use Rattle.pdi_spec.specs.Laws.{Tests.either, Tests.or-both, Tests.never-both, Tests.equal-told, Tests.false-at, Tests.mem-numbers, Tests.numbers-mem, Tests.none-entry}
 
 -- a length stands for at most one number of entries
 pub entries-unique : (n : ℕ) → entriesIn (sizeOfEntries n) ≡ n
@@ -76,7 +75,7 @@ pub own-entry : (bytes : List ℕ) (i : ℕ) (b : Block) → hashBlockBad bytes 
 unfolding hashBlockBad ownEntries entryNumbers hashEntryIn hasIndex Option·elim
 own-entry bytes i b e =
     let n = entriesIn (b .size) in
-    let one = eqb-true (ownEntries bytes b i) 1 (not-false (eqb (ownEntries bytes b i) 1) (false-at _ e 5)) in
+    let one = equal-told (ownEntries bytes b i) 1 (false-at _ e 5) in
     let r = count-one (hasIndex bytes b i) (numbers 0 n) one in (
       r .0,
       omega (arith, mem-numbers 0 n (r .2)),

@@ -2,30 +2,19 @@
 -- of plain reading's answer. Assumes nothing.
 use Prim.Native.Nat.{ℕ, _*_, _<_}
 use native.Mathlib.Omega.{arith}
-use mathlib.Core.Bool.{true, false}
 use mathlib.Core.List.{List, [], _∷_, _++_, List·Mem, not-mem-nil}
-use mathlib.Core.Logic.{_↔_, ⊎-elim}
+use mathlib.Core.Logic.{_↔_}
 use mathlib.Core.Path.{_≡_, refl, sym, _∙_, ap}
-use Rattle.pdi_spec.specs.{Limits.answerUnit, Lists.firstOf, File.File, ImageRules.imageHeadersBad, ImageRules.AllOwnRuns, RuleList.rule20, RuleList.tableRules, RuleList.headerRules, RuleList.partitionRules, RuleList.readingRules, RuleList.clashRules, RuleList.imageRules, RuleList.laterRules, RuleList.plainRules, RuleList.withBuffer, Verdict.Rule, Verdict.once, Verdict.refused, Verdict.verdict, Verdict.Kept, Verdict.Keeps, Answers.answer}
-use Rattle.pdi_spec.specs.Laws.{Tests.either, Tests.never-both, Verdict.verdict-skip, Verdict.verdict-broken, Verdict.verdict-kept, Verdict.no-such-number, Verdict.refused-p, Images.runs-kept, Plain.plain, Questions.refusal}
+use Rattle.pdi_spec.specs.{Limits.answerUnit, File.File, ImageRules.imageHeadersBad, ImageRules.AllOwnRuns, RuleList.rule20, RuleList.tableRules, RuleList.headerRules, RuleList.partitionRules, RuleList.readingRules, RuleList.clashRules, RuleList.imageRules, RuleList.laterRules, RuleList.plainRules, RuleList.withBuffer, Verdict.Rule, Verdict.refused, Verdict.verdict, Verdict.Keeps, Answers.answer}
+use Rattle.pdi_spec.specs.Laws.{Once.once-exactly, Images.runs-broken, Plain.plain, Questions.refusal}
 
 module _ (f : File) (before after : List Rule) (kept : Keeps before f) (high : (r : Rule) → List·Mem r after → 20 < r .number) where
-  broken : imageHeadersBad f ≡ true → verdict (before ++ (rule20 ∷ after)) f ≡ refused 20 0
-  unfolding once firstOf
-  broken e = verdict-skip before (rule20 ∷ after) f kept ∙ verdict-broken rule20 after f 0 (rw e refl)
-
-  unbroken : imageHeadersBad f ≡ false → verdict (before ++ (rule20 ∷ after)) f ≡ verdict after f
-  unfolding once Kept
-  unbroken e = verdict-skip before (rule20 ∷ after) f kept ∙ verdict-kept rule20 after f (λ p m. e)
-
   pub refused-20 : (p : ℕ) → (verdict (before ++ (rule20 ∷ after)) f ≡ refused 20 p) ↔ ((AllOwnRuns f → ⊥) × (p ≡ 0))
-  refused-20 p = (
-    λ e.
-        ⊎-elim (λ h. (λ r. never-both h (runs-kept f .1 r), refused-p (sym e ∙ broken h)))
-        (λ h. absurd (no-such-number after f 20 p high (sym (unbroken h) ∙ e))) (either (imageHeadersBad f)),
-    λ t.
-        ⊎-elim (λ h. broken h ∙ ap (refused 20) (sym (t .1))) (λ h. absurd (t .0 (runs-kept f .0 h))) (either (imageHeadersBad f)),
-  )
+  refused-20 p =
+      let law = once-exactly 20 imageHeadersBad f before after kept high p in (
+        λ e. let t = law .0 e in (runs-broken f .0 (t .0), t .1),
+        λ t. law .1 (runs-broken f .1 (t .0), t .1),
+      )
 
 -- ---- plain reading, with rules 1 to 19 kept
 

@@ -3,15 +3,15 @@ use Prim.Native.Nat.{ℕ, zero, suc, _+_, _-_, _≤_, _<_}
 use native.Mathlib.Numerals.{add-one}
 use native.Mathlib.Omega.{arith}
 use native.Mathlib.Decide.{decLt}
-use mathlib.Core.Bool.{Bool, false, not}
+use mathlib.Core.Bool.{Bool, true, false, not}
 use mathlib.Core.List.{List, [], _∷_, map, List·Mem}
-use mathlib.Core.Logic.{_↔_}
+use mathlib.Core.Logic.{_↔_, ⊎-elim}
 use mathlib.Core.Option.{Option, none, some, Option·elim}
 use mathlib.Core.Path.{_≡_, refl, sym, _∙_, ap}
 use lib.Dec.{leb, ltb, eqb}
 use borrow.Author.Tests.{ltb-false, le-ltb, leb-true, leb-false, le-leb}
 use Rattle.pdi_spec.specs.{Lists.numbers, Lists.sumOf, Lists.anyTrue, Lists.anyOf, Lists.firstOf, Lists.First, File.File, File.partitions, Images.images, Images.imageNumbers, Images.imageHeader, Images.ownedUpTo, Images.InRun, Images.ownerImage, Verdict.once, Verdict.Kept, RuleList.rule20, ImageRules.imageChecksumBad, ImageRules.runMisplaced, ImageRules.imageHeadersBad, ImageRules.OwnsRun, ImageRules.AllOwnRuns}
-use Rattle.pdi_spec.specs.Laws.{Lists.sum-more, Tests.equal-told, Tests.equal-tells, Tests.false-at, Tests.none-entry, Tests.entry-none, Tests.or-both, Tests.never-both, Tests.mem-numbers, Tests.numbers-mem, Kept.kept-once, Firsts.first-mem, Firsts.first-none, Firsts.first-some, Firsts.first-smallest}
+use Rattle.pdi_spec.specs.Laws.{Lists.sum-more, Tests.either, Tests.equal-told, Tests.equal-tells, Tests.false-at, Tests.none-entry, Tests.entry-none, Tests.or-both, Tests.never-both, Tests.mem-numbers, Tests.numbers-mem, Kept.kept-once, Firsts.first-mem, Firsts.first-none, Firsts.first-some, Firsts.first-smallest}
 
 module _ (f : File) where
   -- ---- counts added up
@@ -19,6 +19,12 @@ module _ (f : File) where
   pub owned-more : (i : ℕ) → ownedUpTo f (i + 1) ≡ ownedUpTo f i + imageHeader f (i + 1) .partitions
   unfolding ownedUpTo
   owned-more i = rw (add-one i) refl
+
+  -- the last of them apart
+  pub owned-last : (i : ℕ) → 1 ≤ i → ownedUpTo f i ≡ ownedUpTo f (i - 1) + imageHeader f i .partitions
+  owned-last i low =
+      let same : i - 1 + 1 ≡ i = omega arith in
+      sym (ap (ownedUpTo f) same) ∙ owned-more (i - 1) ∙ ap (λ (k : ℕ). ownedUpTo f (i - 1) + imageHeader f k .partitions) same
 
   grows-by : (i d : ℕ) → ownedUpTo f i ≤ ownedUpTo f (i + d)
   unfolding ownedUpTo
@@ -91,6 +97,13 @@ module _ (f : File) where
   pub runs-kept : (imageHeadersBad f ≡ false) ↔ AllOwnRuns f
   unfolding imageHeadersBad
   runs-kept = (none-broken, all-kept)
+
+  -- and broken exactly where they don't
+  pub runs-broken : (imageHeadersBad f ≡ true) ↔ (AllOwnRuns f → ⊥)
+  runs-broken = (
+    λ e r. never-both e (runs-kept .1 r),
+    λ n. ⊎-elim (λ e. e) (λ e. absurd (n (runs-kept .0 e))) (either (imageHeadersBad f)),
+  )
 
   pub runs-stated : Kept rule20 f ↔ AllOwnRuns f
   unfolding Kept once

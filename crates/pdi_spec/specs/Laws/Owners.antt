@@ -6,12 +6,12 @@ use native.Mathlib.Decide.{decLe}
 use mathlib.Core.Bool.{Bool}
 use mathlib.Core.List.{List}
 use mathlib.Core.Logic.{_↔_, _⊎_, inl, inr, ⊎-elim}
-use mathlib.Core.Path.{_≡_, sym, _∙_, ap, subst}
+use mathlib.Core.Path.{_≡_, sym, _∙_, subst}
 use lib.Dec.{eqb}
 use lib.ListN.{length}
 use borrow.Author.Tests.{eq-eqb, ne-eqb}
 use Rattle.pdi_spec.specs.{Limits.bufferNumbers, Lists.countOf, Lists.First, File.File, File.partitions, File.partitionNumbers, File.header, Headers.headerFrom, Images.images, Images.imageHeader, Images.ownedUpTo, Images.runStart, Images.InRun, Images.ownerImage, ImageRules.imageHeadersBad, ImageRules.AllOwnRuns, Ranges.Range, Ranges.endOf, Ranges.within, Verdict.Rule, Verdict.accepted, Verdict.refused, Verdict.verdict, RuleList.withoutBuffer, RuleList.withRows, Answers.asked, Answers.ownerUnder, Answers.ownerBy, Answers.readBy, Supported.Supported}
-use Rattle.pdi_spec.specs.Laws.{Tests.either, Tests.never-both, Tests.is-not-true, Tests.within-bounds, Tests.bounds-within, Tests.numbers-mem, Counts.range-count, Counts.count-same, Firsts.first-some, Firsts.smallest-first, Kept.kept-once, Verdict.accepted-kept, Refusals.answer-refused, Refusals.with-room, Images.owned-more, Images.owned-grows, Images.runs-kept, Images.run-in-chain, Images.runs-ascend, Images.owner-in-run, Images.owner-is, Partitions.refused-gives, Partitions.other-gives, Partitions.accepted-gives, Answers.listed, Answers.read-accepts}
+use Rattle.pdi_spec.specs.Laws.{Tests.either, Tests.never-both, Tests.is-not-true, Tests.within-bounds, Tests.bounds-within, Tests.numbers-mem, Counts.range-count, Counts.count-same, Firsts.first-some, Firsts.smallest-first, Kept.kept-once, Verdict.accepted-kept, Refusals.answer-refused, Refusals.with-room, Images.owned-last, Images.owned-grows, Images.runs-kept, Images.run-in-chain, Images.runs-ascend, Images.owner-in-run, Images.owner-is, Partitions.refused-gives, Partitions.other-gives, Partitions.accepted-gives, Answers.listed, Answers.read-accepts}
 
 pub owner-refused : (rs : List Rule) (f : File) (k q : ℕ) → verdict rs f ≡ refused k q → (p : ℕ) → ownerUnder rs f p ≡ 0
 unfolding ownerUnder
@@ -73,10 +73,8 @@ module _ {own : List Rule} (s : Supported own) (image : List ℕ) (place : ℕ) 
       abbrev run : Range
       run = record { start = runStart f i; size = imageHeader f i .partitions }
 
-      ends : ownedUpTo f i ≡ ownedUpTo f (i - 1) + imageHeader f i .partitions
-      ends =
-          let same : i - 1 + 1 ≡ i = omega arith in
-          sym (ap (ownedUpTo f) same) ∙ owned-more f (i - 1) ∙ ap (λ (k : ℕ). ownedUpTo f (i - 1) + imageHeader f k .partitions) same
+      abbrev ends : ownedUpTo f i ≡ ownedUpTo f (i - 1) + imageHeader f i .partitions
+      ends = owned-last f i low
 
       ends-in-chain : ownedUpTo f i ≤ partitions f
       ends-in-chain = omega (arith, owned-grows f i (images f) high, runs .add-up)

@@ -10,7 +10,7 @@ use native.Mathlib.Bridge.{le-prop}
 use mathlib.Core.Path.{_≡_, refl, sym, _∙_, ap}
 use lib.Dec.{leb, ltb, eqb}
 use lib.ListN.{getD}
-use borrow.Author.Tests.{ltb-true, leb-true, eqb-true, lt-ltb, le-leb, eq-eqb}
+use borrow.Author.Tests.{ltb-true, leb-true, eqb-true, not-false, lt-ltb, le-leb, eq-eqb}
 use Rattle.pdi_spec.specs.{Lists.numbers, Lists.anyTrue, Lists.anyOf, Lists.anyPair, Ranges.Range, Ranges.endOf, Ranges.within, Ranges.overlap}
 
 -- ---- Boolean tests
@@ -51,10 +51,6 @@ pub and-both : (a b : Bool) → a ≡ true → b ≡ true → (a && b) ≡ true
 and-both true b e h = h
 and-both false b e h = e
 
-pub not-is-false : (a : Bool) → not a ≡ false → a ≡ true
-not-is-false true e = refl
-not-is-false false e = absurd (true≢false e)
-
 pub is-not-true : (a : Bool) → (a ≡ true → ⊥) → a ≡ false
 is-not-true true h = absurd (h refl)
 is-not-true false h = refl
@@ -64,7 +60,7 @@ never-both p q = true≢false (sym p ∙ q)
 
 -- a test of difference that fails
 pub equal-told : (a b : ℕ) → not (eqb a b) ≡ false → a ≡ b
-equal-told a b e = eqb-true a b (not-is-false (eqb a b) e)
+equal-told a b e = eqb-true a b (not-false (eqb a b) e)
 
 pub equal-tells : (a b : ℕ) → a ≡ b → not (eqb a b) ≡ false
 equal-tells a b e = ap not (eq-eqb a b e)

@@ -1,11 +1,11 @@
 -- `clash_rules::loads::in_order` meets its contract. The loop's invariant: none of the first i load ranges meets an earlier one, and none
 -- ends after the last that was seen. Assumes nothing.
 use Prim.Native.Nat.{_-_, _≤_}
+use borrow.Author.Tests.{not-false}
 use native.Mathlib.Omega.{arith}
 use mathlib.Core.Bool.{false≢true}
 use mathlib.Core.Logic.{⊎-elim}
 use mathlib.Core.Path.{_≡_, sym, _∙_, ap}
-use Rattle.pdi_spec.specs.Laws.Tests.{not-is-false}
 use Rattle.chain_rules.specs.Chain.{fileOf}
 use Rattle.ranges.specs.Range.{rangeOf, endsBefore}
 use Rattle.pairs.proofs.Following.{ends-before}
@@ -30,7 +30,7 @@ loop-again c =
       omega arith,
       ⊎-elim
           (λ w.
-          let after = ap (endsBefore (rangeOf (l .last))) (sym r) ∙ sym (w .1 .ensures) ∙ not-is-false _ (w .2 .left) in
+          let after = ap (endsBefore (rangeOf (l .last))) (sym r) ∙ sym (w .1 .ensures) ∙ not-false _ (w .2 .left) in
           rw (ap rangeOf (w .3) ∙ r) (ordered-next _ (l .i) (rangeOf (l .last)) (l .inv .1) (ends-before _ _ after)))
           (λ w. rw (w .1) (ordered-empty _ (l .i) (rangeOf (l .last)) (l .inv .1) (rw (← r) (w .0 .left))))
           (c .if1 .came),
