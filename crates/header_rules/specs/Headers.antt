@@ -1,7 +1,7 @@
 -- One header and the rules of a list, and the lowest rule that the first headers break: what the stage of rules 11 to 16 keeps while it
 -- goes along the chain. Assumes nothing.
 use Rattle.std.specs.Prelude.{ℕ, cond, List, [], ◌∷◌, ◌≡◌, ltb}
-use Rattle.std.proofs.Math.Option.{Option, none, some, Option·elim}
+use Rattle.std.proofs.Math.Option.{Option, none, some, Option-elim}
 use Rattle.pdi_spec.specs.Lists.{numbers, first_of}
 use Rattle.pdi_spec.specs.File.{File, header}
 use Rattle.pdi_spec.specs.RuleList.{header_rules}
@@ -15,7 +15,7 @@ unfoldable pub verdict_up_to : List Rule → File → ℕ → Outcome
 verdict_up_to [] f n = accepted
 verdict_up_to (r ∷ rs) f n =
     let later = verdict_up_to rs f n in
-    Option·elim (first_of (r.broken f) (numbers 1 n)) later (refused r.number)
+    Option-elim (first_of (r.broken f) (numbers 1 n)) later (refused r.number)
 
 -- the lower of a refusal so far and the number of a rule that is broken at p, if one is; of equal numbers the earlier p stays
 unfoldable pub lower_of : Outcome → Option ℕ → ℕ → Outcome

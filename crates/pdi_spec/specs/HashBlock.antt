@@ -1,6 +1,6 @@
 -- Document 01, "Hash block" (004) and rule 17: the entries of a hash block, and the one of its own index. Assumes nothing.
 use Rattle.std.specs.Prelude.{ℕ, ◌+◌, ◌*◌, ◌/◌, Bool, ◌&&◌, List, eqb}
-use Rattle.std.proofs.Math.Option.{Option·elim}
+use Rattle.std.proofs.Math.Option.{Option-elim}
 use Rattle.pdi_spec.specs.Lists.{numbers, count_of, first_of}
 use Rattle.pdi_spec.specs.Headers.{Block}
 use Rattle.pdi_spec.specs.Words.{word_at}
@@ -42,4 +42,4 @@ own_entries bytes b i = count_of (has_index bytes b i) (entry_numbers b)
 
 -- "byte offset of its hash entry (0 if none)": the first of index i. With no block there is no entry, as the size is 0.
 unfoldable pub hash_entry_in : List ℕ → Block → ℕ → ℕ
-hash_entry_in bytes b i = Option·elim (first_of (has_index bytes b i) (entry_numbers b)) 0 (entry_at b)
+hash_entry_in bytes b i = Option-elim (first_of (has_index bytes b i) (entry_numbers b)) 0 (entry_at b)

@@ -1,7 +1,7 @@
 -- Document 02, CR 1: the image headers of a file, the runs of the chain that its images own, and the owner image of a partition. Images
 -- are counted from 1, as partitions are. Assumes nothing.
 use Rattle.std.specs.Prelude.{ℕ, zero, suc, ◌+◌, ◌-◌, ◌*◌, ◌≤◌, ◌<◌, List, leb}
-use Rattle.std.proofs.Math.Option.{Option·elim}
+use Rattle.std.proofs.Math.Option.{Option-elim}
 use Rattle.pdi_spec.specs.Lists.{numbers, first_of}
 use Rattle.pdi_spec.specs.Headers.{image_header_size, ImageHeader, image_header_from}
 use Rattle.pdi_spec.specs.File.{File, table}
@@ -38,4 +38,4 @@ pub record InRun (f : File) (i p : ℕ) : Type 0 where
 
 -- "the owner image of partition p, counted from 1": the first image that owns p partitions together with those before it; 0 where none does
 unfoldable pub owner_image : File → ℕ → ℕ
-owner_image f p = Option·elim (first_of (λ (i : ℕ). leb p (owned_up_to f i)) (image_numbers f)) 0 (λ i. i)
+owner_image f p = Option-elim (first_of (λ (i : ℕ). leb p (owned_up_to f i)) (image_numbers f)) 0 (λ i. i)

@@ -3,7 +3,7 @@
 -- every partition."
 use Rattle.std.specs.Prelude.{ℕ, suc, Bool, false, cond, ◌≡◌}
 use mathlib.Core.List.{List, [], ◌∷◌, ◌++◌, Mem}
-use Rattle.std.proofs.Math.Option.{Option, none, some, Option·elim}
+use Rattle.std.proofs.Math.Option.{Option, none, some, Option-elim}
 use Rattle.pdi_spec.specs.Lists.{numbers, first_of, First}
 use Rattle.pdi_spec.specs.File.{File, partitions, partition_numbers}
 
@@ -33,7 +33,7 @@ unfoldable pub verdict : List Rule → File → Outcome
 verdict [] f = accepted
 verdict (r ∷ rs) f =
     let later = verdict rs f in
-    Option·elim (first_of (r.broken f) (r.tried f)) later (refused r.number)
+    Option-elim (first_of (r.broken f) (r.tried f)) later (refused r.number)
 
 -- the number of the first rule of the list that is broken at p
 unfoldable pub first_broken : List Rule → File → ℕ → Option ℕ

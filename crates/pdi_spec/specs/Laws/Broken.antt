@@ -1,7 +1,7 @@
 -- Rules tried one after another at one p, as code tries them: a test that is true stops there, one that is false goes on; and the verdict
 -- of rules that are all tried once, at 0. Assumes nothing.
 use Rattle.std.specs.Prelude.{ℕ, Bool, true, false, cond, List, [], ◌∷◌, ◌≡◌}
-use Rattle.std.proofs.Math.Option.{Option, some, Option·elim}
+use Rattle.std.proofs.Math.Option.{Option, some, Option-elim}
 use Rattle.std.proofs.Math.Path.{refl}
 use Rattle.std.proofs.Common.{◌∙◌, ap}
 use Rattle.pdi_spec.specs.File.{File}
@@ -24,17 +24,17 @@ Onces f (r ∷ rs) = (r.tried f ≡ 0 ∷ []) × Onces f rs
 
 -- the outcome of a number found at 0
 abbrev pub at_zero : Option ℕ → Outcome
-at_zero found = Option·elim found accepted (λ k. refused k 0)
+at_zero found = Option-elim found accepted (λ k. refused k 0)
 
 pub once-verdict : (rs : List Rule) (f : File) → Onces f rs → verdict rs f ≡ at_zero (first_broken rs f 0)
-unfolding verdict first_broken first_of Option·elim
+unfolding verdict first_broken first_of Option-elim
 once-verdict [] f h = refl
 once-verdict (r ∷ rs) f h =
-    ap (λ (l : List ℕ). Option·elim (first_of (r.broken f) l) (verdict rs f) (refused r.number)) h.0
+    ap (λ (l : List ℕ). Option-elim (first_of (r.broken f) l) (verdict rs f) (refused r.number)) h.0
     ∙ go (r.broken f 0) (once-verdict rs f h.1)
   where
     go : (b : Bool) → verdict rs f ≡ at_zero (first_broken rs f 0)
-        → Option·elim (cond b (some 0) (first_of (r.broken f) [])) (verdict rs f) (refused r.number)
+        → Option-elim (cond b (some 0) (first_of (r.broken f) [])) (verdict rs f) (refused r.number)
         ≡ at_zero (cond b (some r.number) (first_broken rs f 0))
     go true ih = refl
     go false ih = ih

@@ -6,7 +6,7 @@ use Rattle.std.proofs.Math.Nat.{ℕ_set}
 use Rattle.std.proofs.Math.Bool.{and-eq-true_iff}
 use mathlib.Core.List.{List, [], ◌∷◌, Mem, mem-cons_self, mem-cons_of_mem, eq-or-mem_of_mem-cons}
 use Rattle.std.proofs.Math.Logic.Or
-use Rattle.std.proofs.Math.Option.{some, Option·elim}
+use Rattle.std.proofs.Math.Option.{some, Option-elim}
 use Rattle.pdi_spec.specs.{Lists.numbers, Lists.any_of, Lists.count_of, Lists.first_of, Headers.Block, File.File, File.hash_block, Words.word_at, HashBlock.no_block, HashBlock.size_of_entries, HashBlock.entries_in, HashBlock.entry_at, HashBlock.has_index, HashBlock.entry_numbers, HashBlock.own_entries, HashBlock.hash_entry_in, Rules.hash_block_bad, Rules.hash_block_wrong}
 use Rattle.pdi_spec.specs.Laws.{Tests.either, Tests.or_both, Tests.never_both, Tests.equal_told, Tests.false_at, Tests.mem_numbers, Tests.numbers_mem, Tests.none_entry}
 
@@ -70,7 +70,7 @@ count-one test (x ∷ xs) e =
 pub own_entry : (bytes : List ℕ) (i : ℕ) (b : Block) → hash_block_bad bytes i b ≡ false
     → (k : ℕ) × (k < entries_in b.size) × (hash_entry_in bytes b i ≡ entry_at b k) × (word_at bytes (entry_at b k) ≡ i)
     × ((j : ℕ) → j < entries_in b.size → word_at bytes (entry_at b j) ≡ i → j ≡ k)
-unfolding hash_block_bad own_entries entry_numbers hash_entry_in has_index Option·elim
+unfolding hash_block_bad own_entries entry_numbers hash_entry_in has_index Option-elim
 own_entry bytes i b e =
     let n = entries_in b.size in
     let one = equal_told (own_entries bytes b i) 1 (false_at _ e 5) in
@@ -85,7 +85,7 @@ own_entry bytes i b e =
 
 -- Without a block there is no entry.
 pub no_entry : (bytes : List ℕ) (i : ℕ) (b : Block) → no_block b ≡ true → hash_entry_in bytes b i ≡ 0
-unfolding hash_entry_in entry_numbers entries_in numbers first_of Option·elim
+unfolding hash_entry_in entry_numbers entries_in numbers first_of Option-elim
 no_entry bytes i b e =
     let empty : b.size ≡ 0 = eqb-true _ 0 ((and-eq-true_iff _ _).0 e).0 in
     rw empty refl

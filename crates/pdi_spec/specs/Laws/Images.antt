@@ -5,7 +5,7 @@ use Rattle.std.proofs.Math.Decide.{dec_lt}
 use Rattle.std.specs.Prelude.{Bool, true, not, ◌↔◌, ◌≡◌, ltb, eqb}
 use Rattle.std.proofs.Math.Bool.{false}
 use mathlib.Core.List.{List, [], ◌∷◌, map, Mem}
-use Rattle.std.proofs.Math.Option.{Option, none, some, Option·elim}
+use Rattle.std.proofs.Math.Option.{Option, none, some, Option-elim}
 use Rattle.std.proofs.Math.Path.{refl, sym, ap}
 use Rattle.std.proofs.Math.Dec.{leb}
 use borrow.Author.Tests.{ltb-false, le-ltb, leb-true, leb-false, le-leb}
@@ -147,7 +147,7 @@ module _ (f : File) where
 
     -- every partition of the chain lies in its owner's run
     pub owner_in_run : (p : ℕ) → 1 ≤ p → p ≤ partitions f → InRun f (owner_image f p) p
-    unfolding owner_image owned_up_to image_numbers Option·elim
+    unfolding owner_image owned_up_to image_numbers Option-elim
     owner_in_run p low high = go (first_of (λ (i : ℕ). leb p (owned_up_to f i)) (image_numbers f)) refl
       where
         -- the images before one that is the first to reach p don't reach it
@@ -158,7 +158,7 @@ module _ (f : File) where
               | no m ↦ let none = ap (owned_up_to f) {x = i - 1} {y = 0} (omega arith) in omega (arith, none)
             ]
 
-        go : (o : Option ℕ) → first_of (λ (i : ℕ). leb p (owned_up_to f i)) (image_numbers f) ≡ o → InRun f (Option·elim o 0 (λ i. i)) p
+        go : (o : Option ℕ) → first_of (λ (i : ℕ). leb p (owned_up_to f i)) (image_numbers f) ≡ o → InRun f (Option-elim o 0 (λ i. i)) p
         go none e =
             let last = first_none _ _ e (images f) (listed (images f) (some_image p low high) (omega arith)) in
             absurd (never_both (le-leb p (owned_up_to f (images f)) (omega (arith, r.add_up))) last)

@@ -5,15 +5,15 @@ use Rattle.std.proofs.Common.{arith, sym, ◌∙◌, ap}
 use Rattle.std.proofs.Math.Bool.{Bool-set}
 use mathlib.Core.HLevel.{Π_prop}
 use mathlib.Core.List.{List, [], ◌∷◌, ◌++◌, map, Mem, mem-cons_self, mem-cons_of_mem, not-mem-nil, mem-map_of_mem, forall_mem-cons}
-use Rattle.std.proofs.Math.Option.{Option, none, some, Option·elim}
+use Rattle.std.proofs.Math.Option.{Option, none, some, Option-elim}
 use Rattle.pdi_spec.specs.{Lists.first_of, File.File, Verdict.Rule, Verdict.Outcome, Verdict.accepted, Verdict.refused, Verdict.verdict, Verdict.Kept, Verdict.Keeps, Verdict.FirstRefusal}
 use Rattle.pdi_spec.specs.Laws.{Firsts.mem_split, Firsts.first_none, Firsts.none_first, Firsts.first_some, Firsts.split_first}
 
 -- what the first rule's first broken p makes of the list's verdict
 verdict-step : (r : Rule) (rs : List Rule) (f : File) (o : Option ℕ) → first_of (r.broken f) (r.tried f) ≡ o
-    → verdict (r ∷ rs) f ≡ Option·elim o (verdict rs f) (refused r.number)
+    → verdict (r ∷ rs) f ≡ Option-elim o (verdict rs f) (refused r.number)
 unfolding verdict
-verdict-step r rs f o e = ap (λ (q : Option ℕ). Option·elim q (verdict rs f) (refused r.number)) e
+verdict-step r rs f o e = ap (λ (q : Option ℕ). Option-elim q (verdict rs f) (refused r.number)) e
 
 pub accepted_not_refused : {k p : ℕ} → accepted ≡ refused k p → ⊥
 accepted_not_refused e = let z : ◌≡◌ {A = ℕ} 0 1 = cc in omega arith
@@ -21,12 +21,12 @@ accepted_not_refused e = let z : ◌≡◌ {A = ℕ} 0 1 = cc in omega arith
 -- a rule that is first broken at p is what the list refuses with
 pub verdict_broken : (r : Rule) (rs : List Rule) (f : File) (p : ℕ) → first_of (r.broken f) (r.tried f) ≡ some p
     → verdict (r ∷ rs) f ≡ refused r.number p
-unfolding Option·elim
+unfolding Option-elim
 verdict_broken r rs f p e = verdict-step r rs f (some p) e
 
 -- a kept rule leaves the verdict to the rest of the list
 pub verdict_kept : (r : Rule) (rs : List Rule) (f : File) → Kept r f → verdict (r ∷ rs) f ≡ verdict rs f
-unfolding Kept Option·elim
+unfolding Kept Option-elim
 verdict_kept r rs f k = verdict-step r rs f none (none_first (r.broken f) (r.tried f) k)
 
 -- and so do several
@@ -48,14 +48,14 @@ and_then (refused k p) o = refused k p
 
 -- a list in two parts: the second is tried only where the first accepts
 pub verdict-append : (rs ss : List Rule) (f : File) → verdict (rs ++ ss) f ≡ and_then (verdict rs f) (verdict ss f)
-unfolding verdict and_then Option·elim
+unfolding verdict and_then Option-elim
 verdict-append [] ss f = refl
 verdict-append (r ∷ rs) ss f = go (verdict-append rs ss f) (first_of (r.broken f) (r.tried f))
   where
     go : verdict (rs ++ ss) f ≡ and_then (verdict rs f) (verdict ss f)
         → (o : Option ℕ)
-        → Option·elim o (verdict (rs ++ ss) f) (refused r.number)
-        ≡ and_then (Option·elim o (verdict rs f) (refused r.number)) (verdict ss f)
+        → Option-elim o (verdict (rs ++ ss) f) (refused r.number)
+        ≡ and_then (Option-elim o (verdict rs f) (refused r.number)) (verdict ss f)
     go ih none = ih
     go ih (some p) = refl
 
@@ -65,7 +65,7 @@ keeps_cons r rs f k ks = (forall_mem-cons (λ (s : Rule). Π_prop (λ p. Π_prop
 
 -- the rules of a list are kept where it accepts
 pub accepted_keeps : (rs : List Rule) (f : File) → verdict rs f ≡ accepted → Keeps rs f
-unfolding Keeps Kept Option·elim
+unfolding Keeps Kept Option-elim
 accepted_keeps [] f e = λ r m. absurd (not-mem-nil m)
 accepted_keeps (r ∷ rs) f e = go (accepted_keeps rs f) (first_of (r.broken f) (r.tried f)) refl
   where
@@ -88,7 +88,7 @@ keeps_accepted (r ∷ rs) f k =
 
 -- a refusal names the first broken rule of the list
 pub refused_first : (rs : List Rule) (f : File) (k p : ℕ) → verdict rs f ≡ refused k p → FirstRefusal rs f k p
-unfolding Option·elim verdict Kept Keeps
+unfolding Option-elim verdict Kept Keeps
 refused_first [] f k p e = absurd (accepted_not_refused e)
 refused_first (r ∷ rs) f k p e = go (refused_first rs f k p) (first_of (r.broken f) (r.tried f)) refl
   where

@@ -5,7 +5,7 @@ use Rattle.std.proofs.Common.{mul-suc}
 use native.Mathlib.Omega.{arith}
 use Rattle.std.specs.Prelude.{Bool, true, false, cond, get_or}
 use mathlib.Core.List.{List, map, flat_map}
-use Rattle.std.proofs.Math.Option.{Option·elim, some}
+use Rattle.std.proofs.Math.Option.{Option-elim, some}
 use Rattle.pdi_spec.specs.{Limits.most_partitions, Lists.numbers, Lists.sum_of, Lists.first_of, Words.byte_at, Words.word_at, Words.spells, Headers.Block, Headers.block_from, Headers.FPDI, Headers.PPDI, Headers.kind_from, Headers.table_from, Headers.header_from, File.File, File.table, File.partitions, File.partition_numbers, File.header_at, File.header, File.hash_block, HashBlock.entries_in, HashBlock.entry_at, HashBlock.has_index, HashBlock.entry_numbers, HashBlock.hash_entry_in, Ranges.span, Ranges.load_range, Answers.row_numbers, Answers.hash_entry, Answers.row_of, Answers.billed, Answers.head, Answers.head_and_rows}
 use Rattle.pdi_spec.specs.Laws.{Lists.Every, Lists.every_append}
 
@@ -19,13 +19,13 @@ sum_short most g h a (suc n) = omega (arith, h a, sum_short most g h (suc a) n, 
 
 -- an entry that was found is one of those that were looked at
 entry_short : (b : Block) (test : ℕ → Bool) (a n : ℕ)
-    → Option·elim (first_of test (numbers a n)) 0 (entry_at b) ≤ 4 * b.offset + 52 * (a + n)
-unfolding first_of numbers entry_at Option·elim
+    → Option-elim (first_of test (numbers a n)) 0 (entry_at b) ≤ 4 * b.offset + 52 * (a + n)
+unfolding first_of numbers entry_at Option-elim
 entry_short b test a zero = omega arith
 entry_short b test a (suc n) = go (test a) (entry_short b test (suc a) n)
   where
-    go : (t : Bool) → Option·elim (first_of test (numbers (suc a) n)) 0 (entry_at b) ≤ 4 * b.offset + 52 * (suc a + n)
-        → Option·elim (cond t (some a) (first_of test (numbers (suc a) n))) 0 (entry_at b) ≤ 4 * b.offset + 52 * (a + suc n)
+    go : (t : Bool) → Option-elim (first_of test (numbers (suc a) n)) 0 (entry_at b) ≤ 4 * b.offset + 52 * (suc a + n)
+        → Option-elim (cond t (some a) (first_of test (numbers (suc a) n))) 0 (entry_at b) ≤ 4 * b.offset + 52 * (a + suc n)
     go true h = omega arith
     go false h = omega arith
 
