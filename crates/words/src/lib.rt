@@ -1,11 +1,14 @@
 // The bytes and the 32-bit little-endian words of a byte slice, checksums of words, and a number stored as bytes. What is read lies inside:
 // a rule has said so before, so no reading tests the end. Only a single byte may be asked for anywhere: it is 0 past the end.
+#![tactic(auto)]
+
 ghost use Rattle.std.specs.Prelude.{◌≡◌, ◌+◌, ◌-◌, ◌*◌, ◌%◌, ◌^◌, ◌<◌, ◌≤◌, length};
 ghost use Rattle.std.proofs.lemmas.List.Edits.{sets};
 ghost use Rattle.pdi_spec.specs.Words.{byte_at, word_at, checksum, boot_checksum, spells};
 ghost use Rattle.pdi_spec.specs.Host.{le_bytes};
 
 // The byte at an offset, 0 past the end.
+#[tactic(auto, unfolding(pdi_spec::specs::Words::byte_at))]
 pub fn byte_at(s: &[u8], at: usize) -> u8
     ensures { result ≡ byte_at s.now at }
 {
@@ -26,6 +29,7 @@ fn word_of(a: u8, b: u8, c: u8, d: u8) -> u32
 }
 
 // The word at an offset. With no test between them the four reads become one.
+#[tactic(auto, unfolding(pdi_spec::specs::Words::word_at, pdi_spec::specs::Words::byte_at))]
 pub fn word_at(s: &[u8], at: usize) -> u32
     requires { at + 3 < length s.now }
     ensures { result ≡ word_at s.now at }
@@ -53,6 +57,7 @@ pub fn checksum(s: &[u8], at: usize, n: usize) -> u32
 }
 
 // The boot header's: the negative of the sum.
+#[tactic(auto, unfolding(pdi_spec::specs::Words::checksum, pdi_spec::specs::Words::boot_checksum))]
 pub fn boot_checksum(s: &[u8], at: usize, n: usize) -> u32
     requires { 4 * n ≤ length s.now - at }
     ensures { result ≡ boot_checksum s.now at n }
