@@ -13,10 +13,10 @@ use Rattle.pdi_spec.specs.HashBlock.{no_block, entries_in, entry_at, has_index, 
 use Rattle.pdi_spec.specs.Ranges.{end_of, past, block_range}
 use Rattle.pdi_spec.specs.Limits.{most_entries}
 use Rattle.pdi_spec.specs.Rules.{not_from, hash_block_bad}
-use Rattle.pdi_spec.specs.Laws.HashBlock.{no_entry}
-use Rattle.pdi_spec.specs.Laws.Alternatives.{any_by_last}
-use Rattle.pdi_spec.specs.Laws.Searches.{NoneOf, found}
-use Rattle.pdi_spec.specs.Laws.Tests.{or_right}
+use Rattle.pdi_spec.proofs.Laws.HashBlock.{no_entry}
+use Rattle.pdi_spec.proofs.Laws.Alternatives.{any_by_last}
+use Rattle.pdi_spec.proofs.Laws.Searches.{NoneOf, found}
+use Rattle.pdi_spec.proofs.Laws.Tests.{or_right}
 use Rattle.block_rules.specs.Entries.{NextEntry, block_answer, block_answer_of}
 use Rattle.block_rules.specs.declared.entries.BlockAnswer.{BlockAnswer}
 use Rattle.block_rules.proofs.Counts.{count_none, count-one, count_two}

@@ -14,8 +14,8 @@ use Rattle.pdi_spec.specs.Limits.{most_partitions}
 use Rattle.pdi_spec.specs.RuleList.{rule17}
 use Rattle.pdi_spec.specs.Rules.{hash_block_wrong}
 use Rattle.pdi_spec.specs.Verdict.{each_and_table, verdict}
-use Rattle.pdi_spec.specs.Laws.Lists.{stored_more}
-use Rattle.pdi_spec.specs.Laws.Searches.{NoneOf, none_yet, one_more, found, not_found}
+use Rattle.pdi_spec.proofs.Laws.Lists.{stored_more}
+use Rattle.pdi_spec.proofs.Laws.Searches.{NoneOf, none_yet, one_more, found, not_found}
 use Rattle.chain_rules.proofs.Verdicts.{one_broken, one_kept}
 use Rattle.chain_rules.specs.Answers.{answer_of}
 use Rattle.chain_rules.specs.declared.Answer.{Answer}

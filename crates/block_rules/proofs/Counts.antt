@@ -5,7 +5,7 @@ use native.Mathlib.Omega.{arith}
 use mathlib.Core.Bool.{Bool, true, false}
 use mathlib.Core.Path.{◌≡◌, refl, ◌∙◌, ap}
 use Rattle.pdi_spec.specs.Lists.{numbers, count_of}
-use Rattle.pdi_spec.specs.Laws.Searches.{NoneOf}
+use Rattle.pdi_spec.proofs.Laws.Searches.{NoneOf}
 
 module _ (test : ℕ → Bool) where
   -- a number's test, seen from the number after a

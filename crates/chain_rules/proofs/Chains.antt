@@ -10,8 +10,8 @@ use Rattle.pdi_spec.specs.Limits.{most_partitions}
 use Rattle.pdi_spec.specs.RuleList.{rule10}
 use Rattle.pdi_spec.specs.Rules.{chain_broken}
 use Rattle.pdi_spec.specs.Verdict.{each, verdict}
-use Rattle.pdi_spec.specs.Laws.Lists.{stored_more}
-use Rattle.pdi_spec.specs.Laws.Searches.{NoneOf, none_yet, one_more, found, not_found}
+use Rattle.pdi_spec.proofs.Laws.Lists.{stored_more}
+use Rattle.pdi_spec.proofs.Laws.Searches.{NoneOf, none_yet, one_more, found, not_found}
 use Rattle.chain_rules.specs.Answers.{answer_of}
 use Rattle.chain_rules.specs.Chain.{link_at}
 use Rattle.chain_rules.specs.declared.Answer.{Answer}

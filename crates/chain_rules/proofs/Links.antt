@@ -12,7 +12,7 @@ use Rattle.pdi_spec.specs.Headers.{header_size, header_from}
 use Rattle.pdi_spec.specs.Lists.{any_true}
 use Rattle.pdi_spec.specs.Ranges.{end_of, past}
 use Rattle.pdi_spec.specs.Rules.{chain_broken}
-use Rattle.pdi_spec.specs.Laws.Tests.{false_at}
+use Rattle.pdi_spec.proofs.Laws.Tests.{false_at}
 use Rattle.chain_rules.specs.Chain.{link_of, link_at}
 use Rattle.chain_rules.specs.declared.chain.Link.{Link}
 

@@ -6,8 +6,8 @@ use mathlib.Core.Path.{◌≡◌, sym, ap}
 use Rattle.pdi_spec.specs.File.{File}
 use Rattle.pdi_spec.specs.Lists.{first_of}
 use Rattle.pdi_spec.specs.Verdict.{Rule, Outcome, verdict, Kept}
-use Rattle.pdi_spec.specs.Laws.Firsts.{first_none}
-use Rattle.pdi_spec.specs.Laws.Verdict.{verdict_broken, verdict_kept}
+use Rattle.pdi_spec.proofs.Laws.Firsts.{first_none}
+use Rattle.pdi_spec.proofs.Laws.Verdict.{verdict_broken, verdict_kept}
 use Rattle.chain_rules.specs.Answers.{answer_of, outcome_of}
 use Rattle.chain_rules.specs.declared.Answer.{Answer}
 

@@ -11,10 +11,10 @@ use Rattle.pdi_spec.specs.Limits.{longest_image, most_images, most_partitions}
 use Rattle.pdi_spec.specs.RuleList.{table_rules}
 use Rattle.pdi_spec.specs.Rules.{image_too_long}
 use Rattle.pdi_spec.specs.Verdict.{Rule, once, Outcome, accepted, refused, verdict}
-use Rattle.pdi_spec.specs.Laws.Kept.{counts-stated, image_header_inside}
-use Rattle.pdi_spec.specs.Laws.Once.{once_broken, once_kept}
-use Rattle.pdi_spec.specs.Laws.Refusals.{table_p, table-counts, table_parts}
-use Rattle.pdi_spec.specs.Laws.Verdict.{and_then, verdict-append, accepted_kept}
+use Rattle.pdi_spec.proofs.Laws.Kept.{counts-stated, image_header_inside}
+use Rattle.pdi_spec.proofs.Laws.Once.{once_broken, once_kept}
+use Rattle.pdi_spec.proofs.Laws.Refusals.{table_p, table-counts, table_parts}
+use Rattle.pdi_spec.proofs.Laws.Verdict.{and_then, verdict-append, accepted_kept}
 use Rattle.headers.specs.Headers.{table_of}
 use Rattle.headers.specs.declared.table.TableHeader.{TableHeader}
 use Rattle.table_rules.specs.Answers.{to_table, table_answer_of, table_answer}

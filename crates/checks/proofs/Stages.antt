@@ -5,7 +5,7 @@ use mathlib.Core.Path.{refl, sym, ◌∙◌, ap}
 use Rattle.pdi_spec.specs.File.{File}
 use Rattle.pdi_spec.specs.RuleList.{rule10, rule17, rule18, rule19, rule20, header_rules, partition_rules, clash_rules, image_rules, later_rules}
 use Rattle.pdi_spec.specs.Verdict.{Outcome, accepted, refused, verdict}
-use Rattle.pdi_spec.specs.Laws.Verdict.{and_then, verdict-append}
+use Rattle.pdi_spec.proofs.Laws.Verdict.{and_then, verdict-append}
 use Rattle.chain_rules.specs.Answers.{answer_of}
 use Rattle.chain_rules.specs.declared.Answer.{Answer}
 

@@ -12,9 +12,9 @@ use borrow.Author.Count.{below_more, below_none}
 use Rattle.pdi_spec.specs.Attributes.{has_load_address}
 use Rattle.pdi_spec.specs.File.{File, header, partitions, partition_numbers}
 use Rattle.pdi_spec.specs.Lists.{numbers, any_of}
-use Rattle.pdi_spec.specs.Laws.Searches.{found, not_found, any_found, any_none}
-use Rattle.pdi_spec.specs.Laws.Tests.{and_left, and_right, and_both}
-use Rattle.pdi_spec.specs.Laws.Verdict.{verdict_broken}
+use Rattle.pdi_spec.proofs.Laws.Searches.{found, not_found, any_found, any_none}
+use Rattle.pdi_spec.proofs.Laws.Tests.{and_left, and_right, and_both}
+use Rattle.pdi_spec.proofs.Laws.Verdict.{verdict_broken}
 use Rattle.pdi_spec.specs.Ranges.{Range, end_of, overlap, meet, loads, load_range, load_range_of}
 use Rattle.pdi_spec.specs.RuleList.{rule19}
 use Rattle.pdi_spec.specs.Rules.{load_ranges_clash}

@@ -10,7 +10,7 @@ use lib.Seq.{take_all}
 use Rattle.pdi_spec.specs.Words.{byte_at}
 use Rattle.pdi_spec.specs.Envelope.{big_endian_at, envelope_head, envelope}
 use Rattle.pdi_spec.specs.Limits.{longest_program_image}
-use Rattle.pdi_spec.specs.Laws.Envelope.{envelope_bad_lem, envelope-held}
+use Rattle.pdi_spec.proofs.Laws.Envelope.{envelope_bad_lem, envelope-held}
 use Rattle.envelope.specs.Opened.{opened_as}
 use Rattle.envelope.specs.declared.Opened.{Opened}
 

@@ -13,8 +13,8 @@ use Rattle.pdi_spec.specs.Images.{images, image_header_at, image_header, owned_u
 use Rattle.pdi_spec.specs.ImageRules.{image_checksum_bad, run_misplaced, image_headers_bad, OwnsRun, AllOwnRuns}
 use Rattle.pdi_spec.specs.Lists.{any_true}
 use Rattle.pdi_spec.specs.Words.{checksum}
-use Rattle.pdi_spec.specs.Laws.Images.{owned_more, owned_last, owned_grows, runs_kept, runs_broken}
-use Rattle.pdi_spec.specs.Laws.Tests.{never_both, or_both, false_at, equal_told, equal_tells}
+use Rattle.pdi_spec.proofs.Laws.Images.{owned_more, owned_last, owned_grows, runs_kept, runs_broken}
+use Rattle.pdi_spec.proofs.Laws.Tests.{never_both, or_both, false_at, equal_told, equal_tells}
 use Rattle.headers.specs.declared.table.TableHeader.{TableHeader}
 use Rattle.chain_rules.specs.Chain.{IsTable, file_of}
 use Rattle.image_rules.specs.Runs.{run_broken, run_of, run_at}

@@ -8,8 +8,8 @@ use borrow.Author.Tests.{le-leb, lt-leb}
 use lib.Dec.{leb}
 use Rattle.pdi_spec.specs.File.{File}
 use Rattle.pdi_spec.specs.Images.{images, image_numbers, image_header, owned_up_to, owner_image}
-use Rattle.pdi_spec.specs.Laws.Images.{owned_more}
-use Rattle.pdi_spec.specs.Laws.Searches.{NoneOf, none_yet, one_more, found, not_found}
+use Rattle.pdi_spec.proofs.Laws.Images.{owned_more}
+use Rattle.pdi_spec.proofs.Laws.Searches.{NoneOf, none_yet, one_more, found, not_found}
 
 -- the images up to k own p partitions or more
 abbrev reaches : File → ℕ → ℕ → Bool

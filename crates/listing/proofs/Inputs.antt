@@ -7,7 +7,7 @@ use lib.ListN.{length, drop, get_or}
 use lib.Seq.{sets, sets-eq}
 use borrow.Author.Tests.{lt-ltb, le-ltb}
 use Rattle.pdi_spec.specs.{Answers.asked, Envelope.Envelope, Envelope.bad, Envelope.holds, Envelope.envelope_head, Envelope.envelope, File.File, Verdict.Rule}
-use Rattle.pdi_spec.specs.Laws.Plain.{plain}
+use Rattle.pdi_spec.proofs.Laws.Plain.{plain}
 use Rattle.envelope.specs.Opened.{opened_as}
 use Rattle.envelope.specs.declared.Opened.{Opened}
 use Rattle.listing.specs.Printed.{printed_of, envelope_text, printed_by, printed, longest_printed, print_answer, print_buffer}

@@ -7,7 +7,7 @@ use mathlib.Core.Path.{◌≡◌, sym, ◌∙◌, ap, ap₂}
 use lib.ListN.{length, take, drop, set, get_or, length-append, length-take, length-drop, drop_of_length-le}
 use lib.Seq.{sets, drop-cons, drop-drop}
 use Rattle.pdi_spec.specs.Limits.{head_width, row_width}
-use Rattle.pdi_spec.specs.Laws.Lists.{sets-append}
+use Rattle.pdi_spec.proofs.Laws.Lists.{sets-append}
 use Rattle.listing.specs.Decimal.{digit, decimal}
 use Rattle.listing.specs.Pieces.{mark, left}
 use Rattle.listing.specs.Printed.{line, row_lines}

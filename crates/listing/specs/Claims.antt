@@ -5,7 +5,7 @@ use mathlib.Core.List.{List, [], ◌∷◌, ◌++◌, Mem}
 use Rattle.std.proofs.Common.{◌∙◌}
 use Rattle.std.proofs.Math.Path.{ap}
 use Rattle.pdi_spec.specs.{Limits.answer_unit, Limits.head_width, Limits.buffer_numbers, File.File, RuleList.plain_rules, Answers.read_answer, Answers.read_rows, Envelope.bad, Envelope.holds, Envelope.envelope, Envelope.envelope_head}
-use Rattle.pdi_spec.specs.Laws.Plain.{plain}
+use Rattle.pdi_spec.proofs.Laws.Plain.{plain}
 use Rattle.listing.specs.Decimal.{digit, digits_up_to, decimal, value}
 use Rattle.listing.specs.Printed.{line, printed, envelope_text, longest_input, longest_printed, print_answer, answer_line, row_lines, buffer_lines}
 use Rattle.listing.specs.Laws

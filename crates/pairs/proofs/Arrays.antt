@@ -9,7 +9,7 @@ use mathlib.Core.Path.{◌≡◌, refl, sym, ◌∙◌, ap}
 use lib.ListN.{length, get_or, set, length-append, length-set, get_or-append}
 use lib.Seq.{ext_get_or, get_or_at, get_or-set_same, get_or-set_other}
 use Rattle.pdi_spec.specs.Lists.{numbers, any_of, any_pair}
-use Rattle.pdi_spec.specs.Laws.Searches.{entry_found, no_entry, pair_found, no_pair}
+use Rattle.pdi_spec.proofs.Laws.Searches.{entry_found, no_entry, pair_found, no_pair}
 use Rattle.pdi_spec.specs.Ranges.{Range, overlap}
 use Rattle.pairs.specs.Lists.{most_ranges, Room, range_at, ranges_in, Filled, crossing}
 

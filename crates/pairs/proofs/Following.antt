@@ -9,7 +9,7 @@ use mathlib.Core.Path.{◌≡◌, refl, sym, ◌∙◌, ap}
 use lib.Dec.{eqb}
 use borrow.Author.Tests.{le-ltb, leb-true, eqb-true, eq-eqb, not-false}
 use Rattle.pdi_spec.specs.Ranges.{Range, end_of, overlap, same_range}
-use Rattle.pdi_spec.specs.Laws.Tests.{or_cases, and_left, and_right, and_both}
+use Rattle.pdi_spec.proofs.Laws.Tests.{or_cases, and_left, and_right, and_both}
 use Rattle.ranges.specs.Range.{ends_before}
 use Rattle.pairs.specs.Lists.{range_at, clashes}
 use Rattle.pairs.specs.Order.{Follows, InOrder, Outside}

@@ -3,7 +3,7 @@ use Rattle.std.specs.Prelude.{ℕ, ◌+◌, ◌*◌, List, [], ◌∷◌, map, l
 use Rattle.pdi_spec.specs.Lists.{those}
 use Rattle.pdi_spec.specs.Verdict.{Rule, Outcome, accepted, refused, verdict}
 use Rattle.pdi_spec.specs.RuleList.{plain_rules, with_rows}
-use Rattle.pdi_spec.specs.Laws.Bench.{opened}
+use Rattle.pdi_spec.proofs.Laws.Bench.{opened}
 use Rattle.pdi_cases.specs.Images.{bench_words, bytes_of, set, sealed, all_sealed, longer, edited, unsealed, words, table_behind, two_words, two_partitions, two_images}
 use Rattle.pdi_spec.specs.Answers.{answer, if_accepted, head_and_rows, asked}
 

@@ -8,7 +8,7 @@ use Rattle.pdi_spec.specs.Rules.{image_too_long, boot_header_bad}
 use Rattle.pdi_spec.specs.RuleList.{plain_rules, with_host_rows}
 use Rattle.pdi_spec.specs.Answers.{answer, asked}
 use Rattle.pdi_spec.specs.Bench.{Edit, ◌:=◌, bench_image}
-use Rattle.pdi_spec.specs.Laws.Bench.{opened}
+use Rattle.pdi_spec.proofs.Laws.Bench.{opened}
 use Rattle.pdi_cases.specs.Images.{bench_words, bytes_of, set, edited}
 use Rattle.pdi_cases.specs.Cases.{computed, Trial, tried, breaks, keeps, ImageCase, answered}
 use Rattle.pdi_cases.specs.TableCases.{place_cases, table_sum_cases, kind_cases, field_cases, table_key_cases, image_header_cases}

@@ -7,8 +7,8 @@ use mathlib.Core.Path.{◌≡◌, sym, ◌∙◌, ap}
 use lib.ListN.{length, take, drop, get_or}
 use lib.Seq.{sets, sets-eq, length-sets, take-suc, length-take-le}
 use Rattle.pdi_spec.specs.Host.{le_bytes}
-use Rattle.pdi_spec.specs.Laws.Answers.{bytes_length}
-use Rattle.pdi_spec.specs.Laws.Lists.{flat_map_more, sets-append}
+use Rattle.pdi_spec.proofs.Laws.Answers.{bytes_length}
+use Rattle.pdi_spec.proofs.Laws.Lists.{flat_map_more, sets-append}
 use Rattle.pdi_spec.specs.Limits.{number_bytes}
 
 abbrev pub bytes_of : List ℕ → List ℕ

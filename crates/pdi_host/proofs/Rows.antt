@@ -7,7 +7,7 @@ use mathlib.Core.Path.{◌≡◌, refl, sym, ◌∙◌, ap, ap₂}
 use lib.ListN.{length, take, drop, get_or}
 use lib.Seq.{sets, take_at}
 use Rattle.pdi_spec.specs.{Limits.head_width, Limits.row_width, Limits.buffer_numbers, Limits.buffer_bytes, Limits.number_bytes, File.File, File.partitions, Verdict.Rule, Verdict.verdict, Verdict.accepted, RuleList.with_rows, Answers.asked, Answers.head_and_rows, Answers.read_by, Answers.rows_by, Host.host_read_by, Host.host_rows_by, Supported.Supported}
-use Rattle.pdi_spec.specs.Laws.{Answers.host_accepts, Answers.host_same, Answers.host_refused, Answers.host_rows_lem, Answers.read_length, Answers.read_refused, Answers.read_verdict, Answers.count-written, Answers.rows_fit, Questions.host_beside, Rows.written-length, Rows.after_accepted}
+use Rattle.pdi_spec.proofs.Laws.{Answers.host_accepts, Answers.host_same, Answers.host_refused, Answers.host_rows_lem, Answers.read_length, Answers.read_refused, Answers.read_verdict, Answers.count-written, Answers.rows_fit, Questions.host_beside, Rows.written-length, Rows.after_accepted}
 use Rattle.pdi_host.proofs.Buffers.{bytes_of, whole}
 
 module _ {own : List Rule} (s : Supported own) (image : List ℕ) (place : ℕ) where

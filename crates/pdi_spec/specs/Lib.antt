@@ -1,7 +1,6 @@
 pub mod Answers
 pub mod Attributes
 pub mod Bench
-pub mod Claims
 pub mod Envelope
 pub mod File
 pub mod HashBlock
@@ -10,7 +9,6 @@ pub mod Host
 pub mod ImageRules
 pub mod Images
 pub mod Keys
-pub mod Laws
 pub mod Limits
 pub mod Lists
 pub mod Loading

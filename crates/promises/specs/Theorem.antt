@@ -11,8 +11,8 @@ use Rattle.pdi_spec.specs.Lists.{first_of}
 use Rattle.pdi_spec.specs.Ranges.{Range, body, address_space}
 use Rattle.pdi_spec.specs.RuleList.{rule17, table_rules, header_rules, partition_rules, clash_rules, image_rules, later_rules, plain_rules, with_buffer, with_rows}
 use Rattle.pdi_spec.specs.Verdict.{once, each, each_and_table, accepted, verdict, Kept, Keeps}
-use Rattle.pdi_spec.specs.Laws.Kept.{by_number}
-use Rattle.pdi_spec.specs.Claims
+use Rattle.pdi_spec.proofs.Laws.Kept.{by_number}
+use Rattle.pdi_spec.proofs.Claims
 use Rattle.listing.specs.Claims as ListingClaims
 use Rattle.listing.specs.Printed.{envelope_text, longest_input}
 use Rattle.promises.specs.Demands.{Refusals, Acceptance, Statements, Loading, Counting, Demands}

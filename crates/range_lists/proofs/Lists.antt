@@ -10,7 +10,7 @@ use Rattle.pdi_spec.specs.File.{File, is_full, partitions, header, hash_block}
 use Rattle.pdi_spec.specs.Headers.{Table}
 use Rattle.pdi_spec.specs.Lists.{numbers}
 use Rattle.pdi_spec.specs.Ranges.{Range, boot_range, table_with_optional, image_headers, header_ranges, block_ranges, hash_blocks}
-use Rattle.pdi_spec.specs.Laws.Lists.{flat_map-numbers}
+use Rattle.pdi_spec.proofs.Laws.Lists.{flat_map-numbers}
 use Rattle.headers.specs.Headers.{block_of, table_of}
 use Rattle.headers.specs.declared.table.TableHeader.{TableHeader}
 use Rattle.chain_rules.specs.Chain.{Chain, file_of}

@@ -11,13 +11,13 @@ use Rattle.pdi_spec.specs.RuleList.{rule1, without_buffer, with_buffer, with_row
 use Rattle.pdi_spec.specs.Rules.{buffer_too_short}
 use Rattle.pdi_spec.specs.Supported.{Supported}
 use Rattle.pdi_spec.specs.Verdict.{Rule, once, accepted, refused, verdict}
-use Rattle.pdi_spec.specs.Laws.Answers.{bill_accepted, bill_refused, part_accepted, part_none, part_refused}
-use Rattle.pdi_spec.specs.Laws.Kept.{lengths_stated, span-stated}
-use Rattle.pdi_spec.specs.Laws.Once.{once_kept}
-use Rattle.pdi_spec.specs.Laws.Owners.{owner_refused, owner_none, owner_accepted}
-use Rattle.pdi_spec.specs.Laws.Refusals.{buffer_accepts, refusal_below, refusal_p}
-use Rattle.pdi_spec.specs.Laws.Rows.{after_accepted, after_refused}
-use Rattle.pdi_spec.specs.Laws.Verdict.{accepted_kept, verdict_after}
+use Rattle.pdi_spec.proofs.Laws.Answers.{bill_accepted, bill_refused, part_accepted, part_none, part_refused}
+use Rattle.pdi_spec.proofs.Laws.Kept.{lengths_stated, span-stated}
+use Rattle.pdi_spec.proofs.Laws.Once.{once_kept}
+use Rattle.pdi_spec.proofs.Laws.Owners.{owner_refused, owner_none, owner_accepted}
+use Rattle.pdi_spec.proofs.Laws.Refusals.{buffer_accepts, refusal_below, refusal_p}
+use Rattle.pdi_spec.proofs.Laws.Rows.{after_accepted, after_refused}
+use Rattle.pdi_spec.proofs.Laws.Verdict.{accepted_kept, verdict_after}
 use Rattle.headers.specs.declared.table.TableHeader.{TableHeader}
 use Rattle.chain_rules.specs.Chain.{file_of}
 use Rattle.chain_rules.proofs.Counts.{counted}

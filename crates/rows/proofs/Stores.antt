@@ -12,7 +12,7 @@ use Rattle.pdi_spec.specs.File.{File, table, partitions, partition_numbers, head
 use Rattle.pdi_spec.specs.Ranges.{Range, span, span_of, load_range, load_range_of}
 use Rattle.pdi_spec.specs.Answers.{Row, row_numbers, row_of, hash_entry, billed, head, head_and_rows}
 use Rattle.pdi_spec.specs.Limits.{head_width, row_width}
-use Rattle.pdi_spec.specs.Laws.Lists.{flat_map-length, flat_map-numbers, numbers-length, sets-append}
+use Rattle.pdi_spec.proofs.Laws.Lists.{flat_map-length, flat_map-numbers, numbers-length, sets-append}
 use Rattle.rows.specs.Rows.{first_rows, overwritten}
 
 -- one store more of a row

@@ -6,7 +6,7 @@ use mathlib.Core.Path.{◌≡◌, refl, ◌∙◌, ap}
 use Rattle.pdi_spec.specs.Answers.{billed}
 use Rattle.pdi_spec.specs.File.{File, partitions, partition_numbers, header}
 use Rattle.pdi_spec.specs.Lists.{numbers, sum_of}
-use Rattle.pdi_spec.specs.Laws.Lists.{sum_more}
+use Rattle.pdi_spec.proofs.Laws.Lists.{sum_more}
 
 unfoldable pub totals : File → ℕ → ℕ
 totals f n = sum_of (map (λ (p : ℕ). (header f p).total) (numbers 1 n))

@@ -12,8 +12,8 @@ use Rattle.pdi_spec.specs.Ranges.{past, end_of}
 use Rattle.pdi_spec.specs.RuleList.{table_rules}
 use Rattle.pdi_spec.specs.Rules.{table_outside}
 use Rattle.pdi_spec.specs.Verdict.{Outcome, once, first_broken}
-use Rattle.pdi_spec.specs.Laws.Broken.{at_zero, once-verdict}
-use Rattle.pdi_spec.specs.Laws.Tests.{or_right}
+use Rattle.pdi_spec.proofs.Laws.Broken.{at_zero, once-verdict}
+use Rattle.pdi_spec.proofs.Laws.Tests.{or_right}
 use Rattle.headers.specs.Headers.{table_of}
 use Rattle.headers.specs.declared.table.TableHeader.{TableHeader}
 use Rattle.table_rules.specs.Answers.{to_table, table_answer_of, table_answer}

@@ -1,7 +1,7 @@
 -- A run's checksum with one word more. Assumes nothing.
 use Rattle.std.proofs.Common.{◌≡◌, ℕ, ◌+◌, ◌*◌, ◌%◌, ◌^◌, List, zero-add}
 use native.Mathlib.Nat.{mod-add-mod}
-use Rattle.pdi_spec.specs.Laws.Lists.{sum_more}
+use Rattle.pdi_spec.proofs.Laws.Lists.{sum_more}
 use Rattle.pdi_spec.specs.Words.{word_at, run, checksum}
 
 module _ (s : List ℕ) (at : ℕ) where

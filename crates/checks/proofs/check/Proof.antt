@@ -7,7 +7,7 @@ use Rattle.pdi_spec.specs.Answers.{asked}
 use Rattle.pdi_spec.specs.File.{File}
 use Rattle.pdi_spec.specs.Verdict.{refused, verdict}
 use Rattle.checks.specs.Readings.{core_rules, numberIn}
-use Rattle.pdi_spec.specs.Laws.Calls.{nothing}
+use Rattle.pdi_spec.proofs.Laws.Calls.{nothing}
 use Rattle.checks.proofs.Outcomes.{refused_told, accepted_told, too_long, too_short, passes, table_refused, TableKept, table_checked, all_kept, one_refused}
 use Rattle.checks.proofs.check.Statement.{statement}
 use Rattle.checks.proofs.check.Tie as tie

@@ -6,7 +6,7 @@ use mathlib.Core.Path.{sym, ◌∙◌, ap}
 use Rattle.pdi_spec.specs.File.{File}
 use Rattle.pdi_spec.specs.RuleList.{rule10, rule17, rule18, rule19, rule20, header_rules, later_rules}
 use Rattle.pdi_spec.specs.Verdict.{Outcome, verdict}
-use Rattle.pdi_spec.specs.Laws.Verdict.{and_then}
+use Rattle.pdi_spec.proofs.Laws.Verdict.{and_then}
 use Rattle.headers.specs.declared.table.TableHeader.{TableHeader}
 use Rattle.chain_rules.specs.Answers.{answer_of}
 use Rattle.chain_rules.specs.Chain.{file_of}

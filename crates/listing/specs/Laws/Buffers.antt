@@ -4,7 +4,7 @@ use Rattle.std.proofs.Common.{arith, ◌∙◌, ap, take_at, drop_at}
 use mathlib.Core.List.{List, [], ◌∷◌, ◌++◌, flat_map, append_assoc, append-nil}
 use Rattle.std.proofs.Math.Path.{refl, sym, ap₂}
 use Rattle.pdi_spec.specs.{Limits.head_width, Limits.row_width, Limits.buffer_numbers, Lists.numbers, File.File, File.partitions, File.partition_numbers, Verdict.Rule, Verdict.Outcome, Verdict.accepted, Verdict.refused, Verdict.verdict, RuleList.without_buffer, RuleList.with_rows, Answers.answer, Answers.asked, Answers.if_accepted, Answers.head, Answers.row_numbers, Answers.row_of, Answers.head_and_rows, Answers.read_by, Answers.rows_by, Supported.Supported}
-use Rattle.pdi_spec.specs.Laws.{Answers.read_verdict, Refusals.answer_tells, Refusals.refusal_p, Refusals.with_room, Rows.after_accepted}
+use Rattle.pdi_spec.proofs.Laws.{Answers.read_verdict, Refusals.answer_tells, Refusals.refusal_p, Refusals.with_room, Rows.after_accepted}
 use Rattle.listing.specs.Printed.{line, number_and_p, lines, printed_of, answer_line, row_lines, buffer_lines}
 
 -- ---- lines of rows

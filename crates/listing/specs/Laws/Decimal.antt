@@ -6,7 +6,7 @@ use Rattle.std.proofs.Common.{arith, inl, inr, ⊎_elim, sym, ◌∙◌, ap, len
 use mathlib.Core.HLevel.{×_prop}
 use mathlib.Core.List.{List, [], ◌∷◌, ◌++◌, Mem}
 use Rattle.std.proofs.Math.ListN.{get_or-append}
-use Rattle.pdi_spec.specs.Laws.Lists.{Every, every_mem}
+use Rattle.pdi_spec.proofs.Laws.Lists.{Every, every_mem}
 use Rattle.listing.specs.Decimal.{digit, digits_up_to, decimal, value_from, value}
 
 -- a number has one digit, or more

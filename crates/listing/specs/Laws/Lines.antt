@@ -1,7 +1,7 @@
 -- Laws of a line: a number and the byte after it, and then the rest; and how long a line can be. Assumes nothing.
 use Rattle.std.specs.Prelude.{ℕ, ◌+◌, ◌*◌, ◌^◌, ◌≤◌, ◌<◌, List, [], ◌∷◌, ◌++◌, ◌≡◌, refl, length}
 use Rattle.std.proofs.Common.{arith, append_assoc, sym, ◌∙◌, ap, length-append}
-use Rattle.pdi_spec.specs.Laws.Lists.{Every}
+use Rattle.pdi_spec.proofs.Laws.Lists.{Every}
 use Rattle.listing.specs.Decimal.{decimal}
 use Rattle.listing.specs.Pieces.{mark, left}
 use Rattle.listing.specs.Printed.{space, line_feed, spaced, line, most_digits}

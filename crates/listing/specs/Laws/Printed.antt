@@ -7,7 +7,7 @@ use mathlib.Core.List.{List, [], ◌∷◌, flat_map}
 use Rattle.std.proofs.Math.Path.{refl}
 use Rattle.std.proofs.Math.ListN.{length, get_or-eq_default}
 use Rattle.pdi_spec.specs.{Limits.longest_program_image, Limits.most_partitions, Limits.buffer_numbers, Lists.numbers, File.File, File.partitions, File.partition_numbers, Verdict.Rule, Verdict.Outcome, Verdict.accepted, Verdict.refused, Verdict.verdict, RuleList.without_buffer, Answers.asked, Answers.if_accepted, Answers.head, Answers.row_numbers, Answers.row_of, Envelope.Envelope, Envelope.bad, Envelope.holds, Envelope.big_endian_at, Envelope.envelope_head, Envelope.envelope_bad, Envelope.envelope, Supported.Supported}
-use Rattle.pdi_spec.specs.Laws.{Envelope.envelope_bad_lem, Plain.plain, Refusals.few_partitions, Refusals.refusal_below, Refusals.refusal_p, Refusals.with_room, Widths.head_narrow, Widths.row_narrow}
+use Rattle.pdi_spec.proofs.Laws.{Envelope.envelope_bad_lem, Plain.plain, Refusals.few_partitions, Refusals.refusal_below, Refusals.refusal_p, Refusals.with_room, Widths.head_narrow, Widths.row_narrow}
 use Rattle.listing.specs.Decimal.{digit, digits_up_to, decimal}
 use Rattle.listing.specs.Printed.{spaced, line, number_and_p, lines, printed_of, envelope_text, printed_as, printed_by, printed, longest_input, longest_printed, most_digits, print_answer}
 use Rattle.listing.specs.Laws.Buffers.{printed_accepts, printed_refuses}

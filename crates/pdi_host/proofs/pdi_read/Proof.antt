@@ -2,7 +2,7 @@
 use borrow.Author.Rules.{rules}
 use native.Mathlib.Omega.{arith}
 use mathlib.Core.Path.{refl}
-use Rattle.pdi_spec.specs.Laws.Plain.{plain}
+use Rattle.pdi_spec.proofs.Laws.Plain.{plain}
 use Rattle.pdi_host.proofs.Rows.{numbers_few, short_answers, refused_answers, accepted_answers}
 use Rattle.pdi_host.proofs.pdi_read.Statement.{statement}
 use Rattle.pdi_host.proofs.pdi_read.Tie as tie

@@ -3,7 +3,7 @@
 use mathlib.Core.Bool.{or_assoc, or-false}
 use Rattle.pdi_spec.specs.Attributes.{has_load_address}
 use Rattle.pdi_spec.specs.Lists.{any_of, is_in}
-use Rattle.pdi_spec.specs.Laws.Calls.{nothing}
+use Rattle.pdi_spec.proofs.Laws.Calls.{nothing}
 use Rattle.attributes.proofs.Attributes.has_load_address.Statement.{statement}
 use Rattle.attributes.proofs.Attributes.has_load_address.Tie as tie
 

@@ -1,7 +1,7 @@
 -- `attributes::Attributes::is_bad` meets its contract: its tests, joined, are the definition's list. Assumes nothing.
 use Rattle.pdi_spec.specs.Rules.{attribute_word_bad}
-use Rattle.pdi_spec.specs.Laws.Calls.{nothing}
-use Rattle.pdi_spec.specs.Laws.Alternatives.{joined_any}
+use Rattle.pdi_spec.proofs.Laws.Calls.{nothing}
+use Rattle.pdi_spec.proofs.Laws.Alternatives.{joined_any}
 use Rattle.attributes.proofs.Attributes.is_bad.Statement.{statement}
 use Rattle.attributes.proofs.Attributes.is_bad.Tie as tie
 

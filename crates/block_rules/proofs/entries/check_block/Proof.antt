@@ -10,7 +10,7 @@ use Rattle.pdi_spec.specs.HashBlock.{no_block, entries_in, own_entries}
 use Rattle.pdi_spec.specs.Ranges.{past, block_range}
 use Rattle.pdi_spec.specs.Rules.{hash_block_bad}
 use Rattle.headers.specs.Headers.{block_of}
-use Rattle.pdi_spec.specs.Laws.Calls.{nothing}
+use Rattle.pdi_spec.proofs.Laws.Calls.{nothing}
 use Rattle.block_rules.proofs.Block.{ill_sized, bad_by, inside, absent, refused, checked, none_own, own_at, two_own, one_own}
 use Rattle.block_rules.proofs.entries.check_block.Statement.{statement}
 use Rattle.block_rules.proofs.entries.check_block.Tie as tie

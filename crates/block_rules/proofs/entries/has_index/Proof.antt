@@ -2,7 +2,7 @@
 use borrow.Author.Rules.{rules}
 use Rattle.pdi_spec.specs.HashBlock.{has_index}
 use Rattle.headers.specs.Headers.{entry_from}
-use Rattle.pdi_spec.specs.Laws.Calls.{nothing}
+use Rattle.pdi_spec.proofs.Laws.Calls.{nothing}
 use Rattle.block_rules.proofs.entries.has_index.Statement.{statement}
 use Rattle.block_rules.proofs.entries.has_index.Tie as tie
 

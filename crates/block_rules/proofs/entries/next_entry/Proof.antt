@@ -5,7 +5,7 @@ use mathlib.Core.Bool.{false}
 use mathlib.Core.Path.{◌≡◌, sym, ◌∙◌}
 use Rattle.pdi_spec.specs.HashBlock.{entries_in, entry_at, has_index}
 use Rattle.headers.specs.Headers.{block_of}
-use Rattle.pdi_spec.specs.Laws.Calls.{nothing}
+use Rattle.pdi_spec.proofs.Laws.Calls.{nothing}
 use Rattle.block_rules.proofs.Counts.{skipped_more}
 use Rattle.block_rules.proofs.entries.next_entry.Statement.{statement}
 use Rattle.block_rules.proofs.entries.next_entry.Tie as tie

@@ -6,7 +6,7 @@ use mathlib.Core.Path.{◌≡◌, sym, ◌∙◌, ap}
 use Rattle.pdi_spec.specs.File.{hash_block}
 use Rattle.pdi_spec.specs.Headers.{Table}
 use Rattle.headers.specs.Headers.{block_of}
-use Rattle.pdi_spec.specs.Laws.Calls.{nothing}
+use Rattle.pdi_spec.proofs.Laws.Calls.{nothing}
 use Rattle.chain_rules.specs.Chain.{file_of}
 use Rattle.chain_rules.proofs.Counts.{counted}
 use Rattle.block_rules.proofs.Blocks.{BlocksSoFar, own_block, block_refused, block_checked, table_broken, starts, kept, broken, onward}

@@ -5,7 +5,7 @@ use mathlib.Core.Path.{◌≡◌, sym, ◌∙◌, ap}
 use Rattle.pdi_spec.specs.File.{File, partitions, header}
 use Rattle.pdi_spec.specs.Headers.{Table, Header, header_from}
 use Rattle.chain_rules.specs.Chain.{file_of, link_of, link_at}
-use Rattle.pdi_spec.specs.Laws.Calls.{nothing}
+use Rattle.pdi_spec.proofs.Laws.Calls.{nothing}
 use Rattle.chain_rules.proofs.Links.{ends_inside, ends, outside, inside}
 use Rattle.chain_rules.proofs.chain.link_at.Statement.{statement}
 use Rattle.chain_rules.proofs.chain.link_at.Tie as tie

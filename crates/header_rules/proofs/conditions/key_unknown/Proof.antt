@@ -1,6 +1,6 @@
 -- `header_rules::conditions::key_unknown` meets its contract: its test is the definition's. Assumes nothing.
 use Rattle.pdi_spec.specs.Rules.{key_unknown}
-use Rattle.pdi_spec.specs.Laws.Calls.{nothing}
+use Rattle.pdi_spec.proofs.Laws.Calls.{nothing}
 use Rattle.header_rules.proofs.conditions.key_unknown.Statement.{statement}
 use Rattle.header_rules.proofs.conditions.key_unknown.Tie as tie
 

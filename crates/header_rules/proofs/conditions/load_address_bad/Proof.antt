@@ -1,6 +1,6 @@
 -- `header_rules::conditions::load_address_bad` meets its contract: the test of the type picks the definition's case. Assumes nothing.
 use Rattle.pdi_spec.specs.Rules.{load_address_bad}
-use Rattle.pdi_spec.specs.Laws.Calls.{nothing}
+use Rattle.pdi_spec.proofs.Laws.Calls.{nothing}
 use Rattle.header_rules.proofs.conditions.load_address_bad.Statement.{statement}
 use Rattle.header_rules.proofs.conditions.load_address_bad.Tie as tie
 

@@ -1,7 +1,7 @@
 -- `header_rules::conditions::span_outside` meets its contract: its tests are the definition's. Assumes nothing.
 use borrow.Author.Rules.{rules}
 use Rattle.pdi_spec.specs.Rules.{span_outside}
-use Rattle.pdi_spec.specs.Laws.Calls.{nothing}
+use Rattle.pdi_spec.proofs.Laws.Calls.{nothing}
 use Rattle.header_rules.proofs.conditions.span_outside.Statement.{statement}
 use Rattle.header_rules.proofs.conditions.span_outside.Tie as tie
 

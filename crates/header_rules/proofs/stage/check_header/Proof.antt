@@ -13,12 +13,12 @@ use Rattle.pdi_spec.specs.Headers.{Header, header_from}
 use Rattle.pdi_spec.specs.RuleList.{header_rules, rule11, rule12, rule13, rule14, rule15, rule16}
 use Rattle.pdi_spec.specs.Rules.{header_checksum_bad, attributes_bad, key_unknown, lengths_bad, span_outside, load_address_bad}
 use Rattle.pdi_spec.specs.Verdict.{each, first_broken}
-use Rattle.pdi_spec.specs.Laws.Broken.{stops, goes_on}
+use Rattle.pdi_spec.proofs.Laws.Broken.{stops, goes_on}
 use Rattle.headers.specs.Headers.{header_of}
 use Rattle.chain_rules.specs.Chain.{file_of}
 use Rattle.header_rules.specs.Headers.{HeaderTold, number_in}
 use Rattle.header_rules.specs.declared.stage.HeaderAnswer.{HeaderAnswer}
-use Rattle.pdi_spec.specs.Laws.Calls.{nothing}
+use Rattle.pdi_spec.proofs.Laws.Calls.{nothing}
 use Rattle.header_rules.proofs.stage.check_header.Statement.{statement}
 use Rattle.header_rules.proofs.stage.check_header.Tie as tie
 

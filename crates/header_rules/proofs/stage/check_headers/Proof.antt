@@ -11,7 +11,7 @@ use Rattle.pdi_spec.specs.Verdict.{Outcome}
 use Rattle.chain_rules.specs.Answers.{outcome_of}
 use Rattle.chain_rules.specs.Chain.{file_of}
 use Rattle.header_rules.specs.Headers.{verdict_up_to, lower_of}
-use Rattle.pdi_spec.specs.Laws.Calls.{nothing}
+use Rattle.pdi_spec.proofs.Laws.Calls.{nothing}
 use Rattle.chain_rules.proofs.Counts.{counted}
 use Rattle.chain_rules.proofs.Verdicts.{answer_is}
 use Rattle.header_rules.proofs.Lowest.{starts, next, ends}

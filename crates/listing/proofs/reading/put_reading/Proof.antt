@@ -2,7 +2,7 @@
 use borrow.Author.Rules.{rules}
 use native.Mathlib.Omega.{arith}
 use lib.ListN.{replicate}
-use Rattle.pdi_spec.specs.Laws.Plain.{plain}
+use Rattle.pdi_spec.proofs.Laws.Plain.{plain}
 use Rattle.pdi_spec.specs.Limits.{buffer_numbers}
 use Rattle.listing.proofs.Readings.{refused_stored, accepted_stored, answer_fits, buffer_fits}
 use Rattle.listing.proofs.reading.put_reading.Statement.{statement}

@@ -1,6 +1,6 @@
 -- `reader::billing::bill` meets its contract (Questions.antt). Assumes nothing.
 use Rattle.std.proofs.Common.{rules}
-use Rattle.pdi_spec.specs.Laws.Plain.{plain}
+use Rattle.pdi_spec.proofs.Laws.Plain.{plain}
 use Rattle.reader.proofs.Questions.{refused_bill, accepted_bill}
 use Rattle.reader.proofs.billing.bill.Statement.{statement}
 use Rattle.reader.proofs.billing.bill.Tie as tie

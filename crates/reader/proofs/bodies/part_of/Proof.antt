@@ -1,6 +1,6 @@
 -- `reader::bodies::part_of` meets its contract (Questions.antt). Assumes nothing.
 use Rattle.std.proofs.Common.{sym, inl, inr, arith, rules}
-use Rattle.pdi_spec.specs.Laws.Plain.{plain}
+use Rattle.pdi_spec.proofs.Laws.Plain.{plain}
 use Rattle.reader.proofs.Questions.{refused_part, no_part, ends, part_is}
 use Rattle.reader.proofs.bodies.part_of.Statement.{statement}
 use Rattle.reader.proofs.bodies.part_of.Tie as tie

@@ -1,6 +1,6 @@
 -- `reader::owners::owner` meets its contract (Questions.antt). Assumes nothing.
 use Rattle.std.proofs.Common.{inl, inr, arith, rules}
-use Rattle.pdi_spec.specs.Laws.Plain.{plain}
+use Rattle.pdi_spec.proofs.Laws.Plain.{plain}
 use Rattle.reader.proofs.Questions.{refused_owner, no_owner, owner_told}
 use Rattle.reader.proofs.owners.owner.Statement.{statement}
 use Rattle.reader.proofs.owners.owner.Tie as tie

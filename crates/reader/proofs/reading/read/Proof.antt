@@ -1,6 +1,6 @@
 -- `reader::reading::read` meets its contract (Questions.antt). Assumes nothing.
 use Rattle.std.proofs.Common.{◌∙◌, rules}
-use Rattle.pdi_spec.specs.Laws.Plain.{plain}
+use Rattle.pdi_spec.proofs.Laws.Plain.{plain}
 use Rattle.reader.proofs.Questions.{read_answer_lem, small, refused_rows, accepted_answer, room, accepted_rows}
 use Rattle.reader.proofs.reading.read.Statement.{statement}
 use Rattle.reader.proofs.reading.read.Tie as tie

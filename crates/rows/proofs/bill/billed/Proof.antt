@@ -6,7 +6,7 @@ use native.Mathlib.Omega.{arith}
 use mathlib.Core.Path.{◌≡◌, sym, ◌∙◌, ap}
 use Rattle.pdi_spec.specs.File.{File}
 use Rattle.pdi_spec.specs.Headers.{Header}
-use Rattle.pdi_spec.specs.Laws.Calls.{nothing}
+use Rattle.pdi_spec.proofs.Laws.Calls.{nothing}
 use Rattle.chain_rules.specs.Chain.{file_of}
 use Rattle.chain_rules.proofs.Counts.{counted}
 use Rattle.rows.proofs.Totals.{totals, totals-none, totals_more, totals_all}

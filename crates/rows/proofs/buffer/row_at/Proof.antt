@@ -1,6 +1,6 @@
 -- `rows::buffer::row_at` meets its contract: the numbers are those that the header states. Assumes nothing.
 use borrow.Author.Rules.{rules}
-use Rattle.pdi_spec.specs.Laws.Calls.{nothing}
+use Rattle.pdi_spec.proofs.Laws.Calls.{nothing}
 use Rattle.rows.proofs.Stores.{row_told}
 use Rattle.rows.proofs.buffer.row_at.Statement.{statement}
 use Rattle.rows.proofs.buffer.row_at.Tie as tie

@@ -2,8 +2,8 @@
 use native.Mathlib.Omega.{arith}
 use borrow.Author.Rules.{rules}
 use Rattle.pdi_spec.specs.Rules.{boot_header_bad}
-use Rattle.pdi_spec.specs.Laws.Calls.{nothing}
-use Rattle.pdi_spec.specs.Laws.Alternatives.{joined_any}
+use Rattle.pdi_spec.proofs.Laws.Calls.{nothing}
+use Rattle.pdi_spec.proofs.Laws.Alternatives.{joined_any}
 use Rattle.table_rules.proofs.conditions.boot_header_bad.Statement.{statement}
 use Rattle.table_rules.proofs.conditions.boot_header_bad.Tie as tie
 

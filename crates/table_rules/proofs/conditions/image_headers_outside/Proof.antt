@@ -1,6 +1,6 @@
 -- `table_rules::conditions::image_headers_outside` meets its contract: its tests are the definition's. Assumes nothing.
 use Rattle.pdi_spec.specs.Rules.{image_headers_outside}
-use Rattle.pdi_spec.specs.Laws.Calls.{nothing}
+use Rattle.pdi_spec.proofs.Laws.Calls.{nothing}
 use Rattle.table_rules.proofs.conditions.image_headers_outside.Statement.{statement}
 use Rattle.table_rules.proofs.conditions.image_headers_outside.Tie as tie
 

@@ -1,8 +1,8 @@
 -- `table_rules::conditions::table_fields_bad` meets its contract: its tests, joined, are the definition's list. Assumes nothing.
 use Rattle.pdi_spec.specs.Rules.{table_fields_bad}
 use borrow.Author.Rules.{rules}
-use Rattle.pdi_spec.specs.Laws.Calls.{nothing}
-use Rattle.pdi_spec.specs.Laws.Alternatives.{joined_any}
+use Rattle.pdi_spec.proofs.Laws.Calls.{nothing}
+use Rattle.pdi_spec.proofs.Laws.Alternatives.{joined_any}
 use Rattle.table_rules.proofs.conditions.table_fields_bad.Statement.{statement}
 use Rattle.table_rules.proofs.conditions.table_fields_bad.Tie as tie
 

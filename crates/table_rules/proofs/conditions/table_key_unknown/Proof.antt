@@ -1,6 +1,6 @@
 -- `table_rules::conditions::table_key_unknown` meets its contract: its test is the definition's. Assumes nothing.
 use Rattle.pdi_spec.specs.Rules.{table_key_unknown}
-use Rattle.pdi_spec.specs.Laws.Calls.{nothing}
+use Rattle.pdi_spec.proofs.Laws.Calls.{nothing}
 use Rattle.table_rules.proofs.conditions.table_key_unknown.Statement.{statement}
 use Rattle.table_rules.proofs.conditions.table_key_unknown.Tie as tie
 

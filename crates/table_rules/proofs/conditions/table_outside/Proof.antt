@@ -1,6 +1,6 @@
 -- `table_rules::conditions::table_outside` meets its contract: its tests are the definition's. Assumes nothing.
 use Rattle.pdi_spec.specs.Rules.{table_outside}
-use Rattle.pdi_spec.specs.Laws.Calls.{nothing}
+use Rattle.pdi_spec.proofs.Laws.Calls.{nothing}
 use Rattle.table_rules.proofs.conditions.table_outside.Statement.{statement}
 use Rattle.table_rules.proofs.conditions.table_outside.Tie as tie
 

@@ -14,10 +14,10 @@ use Rattle.pdi_spec.specs.RuleList.{table_rules, rule3, rule4, rule5, rule6, rul
 use Rattle.pdi_spec.specs.Rules.{table_checksum_wrong, kind_unknown, table_fields_bad, table_key_unknown, boot_header_bad, boot_header_wrong, image_headers_outside}
 use Rattle.pdi_spec.specs.Verdict.{once, first_broken}
 use Rattle.pdi_spec.specs.Words.{checksum}
-use Rattle.pdi_spec.specs.Laws.Broken.{stops, goes_on}
+use Rattle.pdi_spec.proofs.Laws.Broken.{stops, goes_on}
 use Rattle.headers.specs.Headers.{table_of}
 use Rattle.table_rules.proofs.Answers.{refused_told, checked_told, table_inside}
-use Rattle.pdi_spec.specs.Laws.Calls.{nothing}
+use Rattle.pdi_spec.proofs.Laws.Calls.{nothing}
 use Rattle.table_rules.proofs.stage.check_table.Statement.{statement}
 use Rattle.table_rules.proofs.stage.check_table.Tie as tie
 

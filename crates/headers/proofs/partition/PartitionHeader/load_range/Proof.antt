@@ -1,6 +1,6 @@
 -- `headers::partition::PartitionHeader::load_range` meets its contract: the halves joined are the load address. Assumes nothing.
 use borrow.Author.Rules.{rules}
-use Rattle.pdi_spec.specs.Laws.Calls.{nothing}
+use Rattle.pdi_spec.proofs.Laws.Calls.{nothing}
 use Rattle.headers.proofs.partition.PartitionHeader.load_range.Statement.{statement}
 use Rattle.headers.proofs.partition.PartitionHeader.load_range.Tie as tie
 

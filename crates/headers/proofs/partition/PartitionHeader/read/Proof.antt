@@ -4,7 +4,7 @@ use Prim.Native.Nat.{ℕ, ◌+◌, ◌*◌, ◌^◌}
 use native.Mathlib.Omega.{arith}
 use mathlib.Core.Path.{◌∙◌, ap₂}
 use Rattle.pdi_spec.specs.Headers.{header_from}
-use Rattle.pdi_spec.specs.Laws.Calls.{nothing}
+use Rattle.pdi_spec.proofs.Laws.Calls.{nothing}
 use Rattle.headers.proofs.partition.PartitionHeader.read.Statement.{statement}
 use Rattle.headers.proofs.partition.PartitionHeader.read.Tie as tie
 
