@@ -4,8 +4,8 @@
 usage: python3 tools/respell.py      once, at the top, after /opt/rattle/port/port.py and before any edit by hand
        python3 tools/respell.py --list   writes nothing: prints each old name and its new one, and the names that would fall together
 
-A definition, lemma, field or constructor in lower camel case gets underscores, and so does a dash that joins plain words. A dash stays where
-it joins the names of two functions, as in length-drop, and before a fact, which keeps its capital. Names of src/ and of the kit stay.
+A definition, lemma, field or constructor in lower camel case gets underscores, and so does a dash, but before a fact, which keeps its
+capital. A lemma that would then have a definition's name ends in _lem. Names of src/ and of the kit stay.
 It rewrites .antt files, the ghost lines, clauses and comments of .rt files, and .edit files. It proves nothing.
 """
 import os
@@ -20,8 +20,6 @@ DECLARED = re.compile(
     r"^(\s*)(?:(?:pub|abbrev|unfoldable|private)\s+)*([A-Za-z_][\w'₀-₉-]*)((?:\s+[A-Za-z_][\w'₀-₉-]*)*)\s+:(?:\s|$)"
 )
 KIT_HEADS = ("Rattle.std", "mathlib", "lib", "native", "borrow", "Prim", "denote", "logic", "specs.contracts", "antt", "store", "prog", "types")
-# Functions of the kit whose names stand in names of lemmas here.
-KIT_FUNCTIONS = {"append", "length", "map", "take", "drop", "set", "sets", "filter", "add", "sub", "mul", "flat_map", "cond"}
 
 
 def files(root):
@@ -39,12 +37,12 @@ def read(path):
 
 def goals(path):
     """A proof's own file: its names at the margin are those of goals, which Rattle makes."""
-    return os.path.basename(path) == "Proof.antt"
+    return os.path.basename(path) in ("Proof.antt", "Answers.antt", "Invariants.antt")
 
 
 def goals_of(text):
     """The names of goals in a proof's own file: those that its last definition hands on, and its own."""
-    return set(NAME.findall(text[text.find("tie.close"):])) | {m.group(1) for m in re.finditer(r"(?m)^(?:pub |abbrev |unfoldable )*([\w'-]+) : (?:tie\.|\{M : )", text)}
+    return set(NAME.findall(text[text.find("tie.close"):])) | {m.group(1) for m in re.finditer(r"(?m)^(?:pub |abbrev |unfoldable )*([\w'-]+) : (?:tie\.|goal\.|\{M : )", text)}
 
 
 def declared(root):
@@ -76,18 +74,16 @@ def snake(word):
     return re.sub(r"(?<=[a-z0-9'])([A-Z])", lambda m: "_" + m.group(1).lower(), word)
 
 
-def spelled(name, functions):
+def spelled(name):
     """The name as it is spelled today."""
     parts = name.split("-")
-    known = {snake(f) for f in functions} | KIT_FUNCTIONS
     new = []
     for p in parts:
         new.append(p if p[:1].isupper() else snake(p))
-    functions_only = len(new) == 2 and all(p in known for p in new)
     out = new[0]
     for before, after in zip(new, new[1:]):
         fact = after[:1].isupper() or before[:1].isupper()
-        out += ("-" if fact or functions_only else "_") + after
+        out += ("-" if fact else "_") + after
     return out
 
 
@@ -108,7 +104,7 @@ def table(root):
     kit = imported(root)
     new = {}
     for name in names:
-        to = spelled(name, functions)
+        to = spelled(name)
         if to != name and name not in kit:
             new[name] = to
     together = {}

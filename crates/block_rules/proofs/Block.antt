@@ -19,7 +19,7 @@ use Rattle.pdi_spec.proofs.Laws.Searches.{NoneOf, found}
 use Rattle.pdi_spec.proofs.Laws.Tests.{or_right}
 use Rattle.block_rules.specs.Entries.{NextEntry, block_answer, block_answer_of}
 use Rattle.block_rules.specs.declared.entries.BlockAnswer.{BlockAnswer}
-use Rattle.block_rules.proofs.Counts.{count_none, count-one, count_two}
+use Rattle.block_rules.proofs.Counts.{count_none, count_one, count_two}
 
 -- the code's tests of the size and the offset: n entries, of this size
 abbrev pub ill_sized : Block → ℕ → ℕ → Bool
@@ -91,5 +91,5 @@ module _ (bytes : List ℕ) (i : ℕ) (b : Block) where
         pub one_own : other ≡ entries_in b.size → not (eqb (own_entries bytes b i) 1) ≡ false
         unfolding own_entries entry_numbers
         one_own e =
-            rw (count-one (has_index bytes b i) 0 (entries_in b.size) own l before own_has
+            rw (count_one (has_index bytes b i) 0 (entries_in b.size) own l before own_has
             (λ k h m. from_0 k (next.skipped k (omega arith) (omega arith))))

@@ -23,16 +23,16 @@ module _ (test : ℕ → Bool) where
       rw (head a (none 0 (omega arith))) (omega (arith, rest))
 
   -- number i alone
-  pub count-one : (a n i : ℕ) → i < n → NoneOf test a i → test (a + i) ≡ true → ((k : ℕ) → i < k → k < n → test (a + k) ≡ false)
+  pub count_one : (a n i : ℕ) → i < n → NoneOf test a i → test (a + i) ≡ true → ((k : ℕ) → i < k → k < n → test (a + k) ≡ false)
       → count_of test (numbers a n) ≡ 1
   unfolding count_of numbers
-  count-one a zero i l before here after = absurd (omega arith)
-  count-one a (suc n) zero l before here after =
+  count_one a zero i l before here after = absurd (omega arith)
+  count_one a (suc n) zero l before here after =
       let rest = count_none (suc a) n (λ k m. from_next a k (after (suc k) (omega arith) (omega arith))) in
       rw (head a here) (omega (arith, rest))
-  count-one a (suc n) (suc i) l before here after =
+  count_one a (suc n) (suc i) l before here after =
       let rest =
-      count-one (suc a) n i (omega arith) (λ k m. from_next a k (before (suc k) (omega arith))) (from_next a i here)
+      count_one (suc a) n i (omega arith) (λ k m. from_next a k (before (suc k) (omega arith))) (from_next a i here)
       (λ k h m. from_next a k (after (suc k) (omega arith) (omega arith))) in
       rw (head a (before 0 (omega arith))) (omega (arith, rest))
 

@@ -11,10 +11,10 @@ use Rattle.pdi_spec.specs.Limits.{longest_image, most_images, most_partitions}
 use Rattle.pdi_spec.specs.RuleList.{table_rules}
 use Rattle.pdi_spec.specs.Rules.{image_too_long}
 use Rattle.pdi_spec.specs.Verdict.{Rule, once, Outcome, accepted, refused, verdict}
-use Rattle.pdi_spec.proofs.Laws.Kept.{counts-stated, image_header_inside}
+use Rattle.pdi_spec.proofs.Laws.Kept.{counts_stated, image_header_inside}
 use Rattle.pdi_spec.proofs.Laws.Once.{once_broken, once_kept}
-use Rattle.pdi_spec.proofs.Laws.Refusals.{table_p, table-counts, table_parts}
-use Rattle.pdi_spec.proofs.Laws.Verdict.{and_then, verdict-append, accepted_kept}
+use Rattle.pdi_spec.proofs.Laws.Refusals.{table_p, table_counts, table_parts}
+use Rattle.pdi_spec.proofs.Laws.Verdict.{and_then, verdict_append, accepted_kept}
 use Rattle.headers.specs.Headers.{table_of}
 use Rattle.headers.specs.declared.table.TableHeader.{TableHeader}
 use Rattle.table_rules.specs.Answers.{to_table, table_answer_of, table_answer}
@@ -78,7 +78,7 @@ table_refused later f {k} e = go (verdict table_rules f) refl e
     go (refused m p) q t =
         let same : m ≡ k = cc in
         let zero : p ≡ 0 = table_p f m p q in
-        sym (verdict-append table_rules later f ∙ rw (q, same, zero) refl)
+        sym (verdict_append table_rules later f ∙ rw (q, same, zero) refl)
 
 -- what a checked table is
 pub record TableKept (bytes : List ℕ) (place : ℕ) (t : TableHeader) : Type 0 where
@@ -100,9 +100,9 @@ table_checked bytes place {t} e = go (verdict table_rules (asked bytes place)) r
         let same : to_table (table (asked bytes place)) ≡ t = cc in
         let at : place ≡ t.place = ap (λ (u : TableHeader). u.place) same in
         let own : IsTable bytes t = sym (ap table_of same) ∙ ap (λ (p : ℕ). table (asked bytes p)) at in
-        let six = accepted_kept table_rules (asked bytes place) q table-counts in
+        let six = accepted_kept table_rules (asked bytes place) q table_counts in
         let nine = accepted_kept table_rules (asked bytes place) q table_parts in
-        let counts = counts-stated (asked bytes place) six in
+        let counts = counts_stated (asked bytes place) six in
         let inside = image_header_inside (asked bytes place) six nine in
         record {
           kept = q;
@@ -127,7 +127,7 @@ module _ (bytes : List ℕ) (place : ℕ) (later : List Rule) {t : TableHeader} 
   rest : (o : Outcome) → verdict later (file_of bytes t) ≡ o → o ≡ verdict (table_rules ++ later) (asked bytes place)
   unfolding and_then
   rest o e =
-      sym (verdict-append table_rules later (asked bytes place)
+      sym (verdict_append table_rules later (asked bytes place)
       ∙ rw k.kept (ap (λ (p : ℕ). verdict later (asked bytes p)) (sym k.at_place) ∙ e))
 
   pub all_kept : r ≡ Answer.Kept → accepted ≡ verdict (table_rules ++ later) (asked bytes place)

@@ -5,7 +5,7 @@ use mathlib.Core.Path.{refl, sym, ◌∙◌, ap}
 use Rattle.pdi_spec.specs.File.{File}
 use Rattle.pdi_spec.specs.RuleList.{rule10, rule17, rule18, rule19, rule20, header_rules, partition_rules, clash_rules, image_rules, later_rules}
 use Rattle.pdi_spec.specs.Verdict.{Outcome, accepted, refused, verdict}
-use Rattle.pdi_spec.proofs.Laws.Verdict.{and_then, verdict-append}
+use Rattle.pdi_spec.proofs.Laws.Verdict.{and_then, verdict_append}
 use Rattle.chain_rules.specs.Answers.{answer_of}
 use Rattle.chain_rules.specs.declared.Answer.{Answer}
 
@@ -40,11 +40,11 @@ pub later_split : (f : File) → verdict later_rules f
     (and_then (verdict (rule18 ∷ []) f) (and_then (verdict (rule19 ∷ []) f) (verdict (rule20 ∷ []) f)))))
 unfolding later_rules partition_rules clash_rules image_rules header_rules
 later_split f =
-    verdict-append (rule10 ∷ []) _ f
+    verdict_append (rule10 ∷ []) _ f
     ∙ ap (and_then (verdict (rule10 ∷ []) f))
-    (verdict-append header_rules _ f
+    (verdict_append header_rules _ f
     ∙ ap (and_then (verdict header_rules f))
-    (verdict-append (rule17 ∷ []) _ f
+    (verdict_append (rule17 ∷ []) _ f
     ∙ ap (and_then (verdict (rule17 ∷ []) f))
-    (verdict-append (rule18 ∷ []) _ f
-    ∙ ap (and_then (verdict (rule18 ∷ []) f)) (verdict-append (rule19 ∷ []) (rule20 ∷ []) f))))
+    (verdict_append (rule18 ∷ []) _ f
+    ∙ ap (and_then (verdict (rule18 ∷ []) f)) (verdict_append (rule19 ∷ []) (rule20 ∷ []) f))))

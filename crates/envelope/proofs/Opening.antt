@@ -10,7 +10,7 @@ use lib.Seq.{take_all}
 use Rattle.pdi_spec.specs.Words.{byte_at}
 use Rattle.pdi_spec.specs.Envelope.{big_endian_at, envelope_head, envelope}
 use Rattle.pdi_spec.specs.Limits.{longest_program_image}
-use Rattle.pdi_spec.proofs.Laws.Envelope.{envelope_bad_lem, envelope-held}
+use Rattle.pdi_spec.proofs.Laws.Envelope.{envelope_bad_lem, envelope_held}
 use Rattle.envelope.specs.Opened.{opened_as}
 use Rattle.envelope.specs.declared.Opened.{Opened}
 
@@ -26,7 +26,7 @@ is_bad input h = sym (ap opened_as ((envelope_bad_lem input).1 h))
 pub is_held : (input : List ℕ) → byte_at input 0 ≡ 1 → big_endian_at input 1 ≤ longest_program_image
     → length input ≡ envelope_head + big_endian_at input 1 → Opened.Holds (big_endian_at input 5) ≡ opened_as (envelope input)
 unfolding opened_as
-is_held input v s h = sym (ap opened_as (envelope-held input v s h))
+is_held input v s h = sym (ap opened_as (envelope_held input v s h))
 
 -- the part from an offset up to the end is what is left without the bytes before it
 pub part_is : (l : List ℕ) (k : ℕ) → take (length l - k) (drop k l) ≡ drop k l

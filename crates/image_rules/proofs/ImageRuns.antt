@@ -39,8 +39,8 @@ module _ (bytes : List ℕ) {t : TableHeader} (own : IsTable bytes t) where
 abbrev pub header_tests : ImageHeader → ℕ → ℕ → Bool
 header_tests h sum offset = (not (eqb h.checksum sum) || ltb h.partitions 1) || not (eqb (4 * h.first_header_offset) offset)
 
-tests-joined : (a b c : Bool) → ((a || b) || c) ≡ (a || (b || (c || false)))
-tests-joined a b c = or_assoc a b c ∙ ap (λ (x : Bool). a || (b || x)) (sym (or-false c))
+tests_joined : (a b c : Bool) → ((a || b) || c) ≡ (a || (b || (c || false)))
+tests_joined a b c = or_assoc a b c ∙ ap (λ (x : Bool). a || (b || x)) (sym (or-false c))
 
 module _ (f : File) (i : ℕ) {n : ℕ} (count_is : n ≡ partitions f) {owned : ℕ} (before : owned ≡ owned_up_to f i) where
   here : owned_up_to f (i + 1 - 1) ≡ owned
@@ -57,7 +57,7 @@ module _ (f : File) (i : ℕ) {n : ℕ} (count_is : n ≡ partitions f) {owned :
     unfolding run_broken image_checksum_bad run_misplaced run_start any_true
     tests_are =
         rw (here, ← count_is, lt-leb n owned left, ← header_is, ← sum_is_lem, ← offset-is)
-        (tests-joined (not (eqb h.checksum sum)) (ltb h.partitions 1) (not (eqb (4 * h.first_header_offset) offset)))
+        (tests_joined (not (eqb h.checksum sum)) (ltb h.partitions 1) (not (eqb (4 * h.first_header_offset) offset)))
 
     pub run_told : {b : Bool} → header_tests h sum offset ≡ b → run_of b (owned + h.partitions) ≡ run_at f (i + 1)
     unfolding run_at
@@ -97,7 +97,7 @@ module _ (f : File) (i : ℕ) where
   pub own_unbroken : AllOwnRuns f → 1 ≤ i → i ≤ images f → run_broken f i ≡ false
   unfolding run_broken image_checksum_bad run_misplaced any_true
   own_unbroken r low high =
-      let own = r.each-run i low high in
+      let own = r.each_run i low high in
       or_both _ _ (lt-leb (partitions f) (owned_up_to f (i - 1)) before)
       (or_both _ _ (equal_tells _ _ own.sum_right)
       (or_both _ _ (le-ltb _ 1 own.owns_some)
@@ -106,24 +106,24 @@ module _ (f : File) (i : ℕ) where
       -- the images before it own fewer than all
       before : owned_up_to f (i - 1) < partitions f
       before =
-          omega (arith, owned_last f i low, (r.each-run i low high).owns_some, owned_grows f i (images f) high, r.add_up)
+          omega (arith, owned_last f i low, (r.each_run i low high).owns_some, owned_grows f i (images f) high, r.add_up)
 
 -- ---- the loop
 
 -- after i images: each owns its run, and together they own that many partitions
 pub record RunsSoFar (f : File) (owned i : ℕ) : Type 0 where
-  pub each-run : (k : ℕ) → k < i → OwnsRun f (k + 1)
+  pub each_run : (k : ℕ) → k < i → OwnsRun f (k + 1)
   pub owned_is : owned ≡ owned_up_to f i
 
 pub none_yet : (f : File) → RunsSoFar f 0 0
 unfolding owned_up_to
-none_yet f = record { each-run = λ k h. absurd (omega arith); owned_is = refl }
+none_yet f = record { each_run = λ k h. absurd (omega arith); owned_is = refl }
 
 module _ (f : File) {owned i : ℕ} (so_far : RunsSoFar f owned i) where
   pub onward : {end : ℕ} → run_at f (i + 1) ≡ Run.Ends end → RunsSoFar f end (i + 1)
   onward e =
       let t = run_ends f (i + 1) e in
-      record { each-run = below_more _ i so_far.each-run (run_owned f (i + 1) t.0); owned_is = t.1 }
+      record { each_run = below_more _ i so_far.each_run (run_owned f (i + 1) t.0); owned_is = t.1 }
 
   pub broken : i < images f → run_at f (i + 1) ≡ Run.Broken → image_headers_bad f ≡ true
   broken l e =
@@ -140,8 +140,8 @@ module _ (f : File) {owned i : ℕ} (so_far : RunsSoFar f owned i) where
     whole e =
         (runs_kept f).1
         (record {
-          each-run = λ k low high.
+          each_run = λ k low high.
               let same : k - 1 + 1 ≡ k = omega arith in
-              subst (OwnsRun f) same (so_far.each-run (k - 1) (omega arith));
+              subst (OwnsRun f) same (so_far.each_run (k - 1) (omega arith));
           add_up = sym total ∙ e;
         })

@@ -24,10 +24,10 @@ module _ (own : List Rule) (input : List ℕ) {o : Opened} (eo : o ≡ opened_as
       go bad q = printed_bad own input q
       go (holds f) q = absurd (let z : ◌≡◌ {A = ℕ} 0 1 = cc (sym b ∙ eo ∙ ap opened_as q) in omega arith)
 
-  pub held-text : (image : List ℕ) (place : ℕ) → image ≡ drop envelope_head input → o ≡ Opened.Holds place
+  pub held_text : (image : List ℕ) (place : ℕ) → image ≡ drop envelope_head input → o ≡ Opened.Holds place
       → printed_by own input ≡ printed_of own (asked image place)
   unfolding opened_as
-  held-text image place ei h = go (envelope input) refl
+  held_text image place ei h = go (envelope input) refl
     where
       go : (e : Envelope) → envelope input ≡ e → printed_by own input ≡ printed_of own (asked image place)
       go bad q = absurd (let z : ◌≡◌ {A = ℕ} 0 1 = cc (sym h ∙ eo ∙ ap opened_as q) in omega arith)
@@ -48,10 +48,10 @@ module _ (input out : List ℕ) (bytes : (i : ℕ) → get_or input i 0 < 256) (
   pub text_fits : length (printed input) ≤ length out
   text_fits = omega (arith, longest plain input bytes, room)
 
-  pub stored-text : {text after : List ℕ} {end : ℕ} → printed input ≡ text → end ≡ length text → after ≡ sets out 0 text
+  pub stored_text : {text after : List ℕ} {end : ℕ} → printed input ≡ text → end ≡ length text → after ≡ sets out 0 text
       → (end ≡ print_answer input out) × (after ≡ print_buffer input out)
   unfolding print_answer print_buffer
-  stored-text {text} et ee ea = (
+  stored_text {text} et ee ea = (
     rw (le-ltb (length out) longest_printed room) (ee ∙ ap length (sym et)),
     rw (le-ltb (length out) longest_printed room)
         (ea ∙ ap (sets out 0) (sym et) ∙ sets-eq (printed input) out 0 (omega (arith, text_fits)) ∙ front),

@@ -7,7 +7,7 @@ use mathlib.Core.Path.{◌≡◌, sym, ◌∙◌, ap, ap₂}
 use lib.ListN.{length, take, drop, set, get_or, length-append, length-take, length-drop, drop_of_length-le}
 use lib.Seq.{sets, drop-cons, drop-drop}
 use Rattle.pdi_spec.specs.Limits.{head_width, row_width}
-use Rattle.pdi_spec.proofs.Laws.Lists.{sets-append}
+use Rattle.pdi_spec.proofs.Laws.Lists.{sets_append}
 use Rattle.listing.specs.Decimal.{digit, decimal}
 use Rattle.listing.specs.Pieces.{mark, left}
 use Rattle.listing.specs.Printed.{line, row_lines}
@@ -15,9 +15,9 @@ use Rattle.listing.specs.Laws.Lines.{left_more}
 use Rattle.listing.specs.Laws.Decimal.{decimal_small, decimal_more, length_more}
 
 -- a number of one digit
-pub one-digit : (out : List ℕ) (at n : ℕ) {d : ℕ} → n < 10 → d ≡ digit n
+pub one_digit : (out : List ℕ) (at n : ℕ) {d : ℕ} → n < 10 → d ≡ digit n
     → (at + 1 ≡ at + length (decimal n)) × (set out at d ≡ sets out at (decimal n))
-one-digit out at n h e = (
+one_digit out at n h e = (
   omega (arith, ap length (decimal_small n h)),
   ap (set out at) e ∙ ap (sets out at) (sym (decimal_small n h)),
 )
@@ -28,18 +28,18 @@ pub last_digit : (out : List ℕ) (at n : ℕ) {last d : ℕ} {after : List ℕ}
     → (last + 1 ≡ at + length (decimal n)) × (set after last d ≡ sets out at (decimal n))
 last_digit out at n {last} h el ea ed = (
   omega (arith, length_more n h),
-  rw (ea, ed) (sets-append out (decimal (n / 10)) (digit (n % 10) ∷ []) at last el ∙ ap (sets out at) (sym (decimal_more n h))),
+  rw (ea, ed) (sets_append out (decimal (n / 10)) (digit (n % 10) ∷ []) at last el ∙ ap (sets out at) (sym (decimal_more n h))),
 )
 
 -- a number, and the byte after it
 pub with_mark : (out : List ℕ) (at n m : ℕ) {end : ℕ} {after : List ℕ} → end ≡ at + length (decimal n) → after ≡ sets out at (decimal n)
     → (end + 1 ≡ at + (length (decimal n) + 1)) × (set after end m ≡ sets out at (decimal n ++ (m ∷ [])))
-with_mark out at n m {end} ee ea = (omega arith, rw ea (sets-append out (decimal n) (m ∷ []) at end ee))
+with_mark out at n m {end} ee ea = (omega arith, rw ea (sets_append out (decimal n) (m ∷ []) at end ee))
 
 -- the byte after a number that others follow, and after the last
-pub mark-space : (numbers : List ℕ) (k : ℕ) → k < length numbers → 0x20 ≡ mark (drop k numbers)
+pub mark_space : (numbers : List ℕ) (k : ℕ) → k < length numbers → 0x20 ≡ mark (drop k numbers)
 unfolding mark
-mark-space numbers k h = sym (ap mark (drop-cons numbers k 0 h))
+mark_space numbers k h = sym (ap mark (drop-cons numbers k 0 h))
 
 pub mark_feed : (numbers : List ℕ) (k : ℕ) → length numbers ≤ k → 0x0A ≡ mark (drop k numbers)
 unfolding mark
@@ -50,7 +50,7 @@ mark_feed numbers k h = sym (ap mark (drop_of_length-le numbers h))
 -- where `now` has a piece, at `end`, that `out` lacks, at `at`
 joined : (out piece rest : List ℕ) (at : ℕ) {end : ℕ} {now : List ℕ} → end ≡ at + length piece → now ≡ sets out at piece
     → (end + length rest ≡ at + length (piece ++ rest)) × (sets now end rest ≡ sets out at (piece ++ rest))
-joined out piece rest at {end} ee en = (omega (arith, length-append piece rest), rw en (sets-append out piece rest at end ee))
+joined out piece rest at {end} ee en = (omega (arith, length-append piece rest), rw en (sets_append out piece rest at end ee))
 
 -- one piece, and another behind it
 pub two_pieces : (out first second : List ℕ) (at : ℕ) {middle end : ℕ} {between after : List ℕ} → middle ≡ at + length first

@@ -27,7 +27,7 @@ zero_is_one_digit = refl
 
 -- Every byte is a digit, 0x30 to 0x39.
 pub digits_only : (n c : ℕ) → Mem c (decimal n) → (0x30 ≤ c) × (c ≤ 0x39)
-digits_only = Laws.Decimal.each-digit
+digits_only = Laws.Decimal.each_digit
 
 -- ---- lengths
 
@@ -43,8 +43,8 @@ pub printed_some : (input : List ℕ) → 0 < length (printed input)
 printed_some = Laws.Printed.some_printed plain_rules
 
 -- The function's answer is at most its buffer's length.
-pub answer-within : (input out : List ℕ) → ((i : ℕ) → i < length input → get_or input i 0 < 256) → print_answer input out ≤ length out
-answer-within input out bytes = Laws.Printed.answer-within input out (Laws.Printed.all_bytes input bytes)
+pub answer_within : (input out : List ℕ) → ((i : ℕ) → i < length input → get_or input i 0 < 256) → print_answer input out ≤ length out
+answer_within input out bytes = Laws.Printed.answer_within input out (Laws.Printed.all_bytes input bytes)
 
 -- ---- bad input
 
@@ -62,7 +62,7 @@ longest_input_is = refl
 
 -- .. so a program that reads 65,537 bytes, or any more, and leaves the rest unread prints the same.
 pub cut_prints_same : (input : List ℕ) (n : ℕ) → longest_input < n → n ≤ length input → printed (take n input) ≡ printed input
-cut_prints_same = Laws.Printed.cut-printed plain_rules
+cut_prints_same = Laws.Printed.cut_printed plain_rules
 
 -- ---- by what read answers for the image, with any row buffer that serves
 

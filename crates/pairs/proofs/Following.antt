@@ -22,9 +22,9 @@ pub apart : (a b : Range) → min (end_of a) (end_of b) ≤ max a.start b.start 
 unfolding overlap
 apart a b l = le-ltb (max a.start b.start) (min (end_of a) (end_of b)) l
 
-pub ends-before : (a b : Range) → ends_before a b ≡ true → end_of a ≤ b.start
+pub ends_before_lem : (a b : Range) → ends_before a b ≡ true → end_of a ≤ b.start
 unfolding ends_before
-ends-before a b e = leb-true (end_of a) b.start e
+ends_before_lem a b e = leb-true (end_of a) b.start e
 
 same_range_lem : (a b : Range) → same_range a b ≡ true → a ≡ b
 unfolding same_range
@@ -41,7 +41,7 @@ range_same a = and_both _ _ (eq-eqb a.start a.start refl) (eq-eqb a.size a.size 
 pub outside : (first last a : Range) → not (ends_before a first || ends_before last a) ≡ false
     → (end_of a ≤ first.start) ⊎ (end_of last ≤ a.start)
 outside first last a e =
-    ⊎_elim (λ h. inl (ends-before a first h)) (λ h. inr (ends-before last a h))
+    ⊎_elim (λ h. inl (ends_before_lem a first h)) (λ h. inr (ends_before_lem last a h))
     (or_cases (ends_before a first) (ends_before last a) (not-false _ e))
 
 -- ---- in order
@@ -49,7 +49,7 @@ outside first last a e =
 -- the test of two neighbours
 pub follows : (equals : Bool) (a b : Range) → not (ends_before a b || (equals && same_range a b)) ≡ false → Follows equals a b
 follows equals a b e =
-    ⊎_elim (λ h. inl (ends-before a b h))
+    ⊎_elim (λ h. inl (ends_before_lem a b h))
     (λ h. inr (and_left equals (same_range a b) h, same_range_lem a b (and_right equals (same_range a b) h)))
     (or_cases (ends_before a b) (equals && same_range a b) (not-false _ e))
 

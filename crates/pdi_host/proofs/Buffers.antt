@@ -8,7 +8,7 @@ use lib.ListN.{length, take, drop, get_or}
 use lib.Seq.{sets, sets-eq, length-sets, take-suc, length-take-le}
 use Rattle.pdi_spec.specs.Host.{le_bytes}
 use Rattle.pdi_spec.proofs.Laws.Answers.{bytes_length}
-use Rattle.pdi_spec.proofs.Laws.Lists.{flat_map_more, sets-append}
+use Rattle.pdi_spec.proofs.Laws.Lists.{flat_map_more, sets_append}
 use Rattle.pdi_spec.specs.Limits.{number_bytes}
 
 abbrev pub bytes_of : List ℕ → List ℕ
@@ -32,7 +32,7 @@ turn numbers start rows after i d h er ea = (ap length more ∙ length-sets star
         let next = le_bytes number_bytes (get_or numbers i d) in
         ea
         ∙ ap (λ (l : List ℕ). sets l (number_bytes * i) next) er
-        ∙ sets-append start (bytes_of (take i numbers)) next 0 (number_bytes * i) (omega (arith, stored))
+        ∙ sets_append start (bytes_of (take i numbers)) next 0 (number_bytes * i) (omega (arith, stored))
         ∙ ap (sets start 0) (sym (flat_map_more (le_bytes number_bytes) (take i numbers) (get_or numbers i d)) ∙ ap bytes_of one_more)
 
 -- where there is room for all of them, they come first and the rest is as it was

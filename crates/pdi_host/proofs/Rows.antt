@@ -7,7 +7,7 @@ use mathlib.Core.Path.{◌≡◌, refl, sym, ◌∙◌, ap, ap₂}
 use lib.ListN.{length, take, drop, get_or}
 use lib.Seq.{sets, take_at}
 use Rattle.pdi_spec.specs.{Limits.head_width, Limits.row_width, Limits.buffer_numbers, Limits.buffer_bytes, Limits.number_bytes, File.File, File.partitions, Verdict.Rule, Verdict.verdict, Verdict.accepted, RuleList.with_rows, Answers.asked, Answers.head_and_rows, Answers.read_by, Answers.rows_by, Host.host_read_by, Host.host_rows_by, Supported.Supported}
-use Rattle.pdi_spec.proofs.Laws.{Answers.host_accepts, Answers.host_same, Answers.host_refused, Answers.host_rows_lem, Answers.read_length, Answers.read_refused, Answers.read_verdict, Answers.count-written, Answers.rows_fit, Questions.host_beside, Rows.written-length, Rows.after_accepted}
+use Rattle.pdi_spec.proofs.Laws.{Answers.host_accepts, Answers.host_same, Answers.host_refused, Answers.host_rows_lem, Answers.read_length, Answers.read_refused, Answers.read_verdict, Answers.count_written, Answers.rows_fit, Questions.host_beside, Rows.written_length, Rows.after_accepted}
 use Rattle.pdi_host.proofs.Buffers.{bytes_of, whole}
 
 module _ {own : List Rule} (s : Supported own) (image : List ℕ) (place : ℕ) where
@@ -21,14 +21,14 @@ module _ {own : List Rule} (s : Supported own) (image : List ℕ) (place : ℕ) 
     accepted_by = read_verdict s image place rows (sym er ∙ z)
 
     count : get_or numbers 2 0 ≡ partitions f
-    count = ap (λ (l : List ℕ). get_or l 2 0) en ∙ count-written s image place rows (sym er ∙ z)
+    count = ap (λ (l : List ℕ). get_or l 2 0) en ∙ count_written s image place rows (sym er ∙ z)
 
     -- those are the head and the rows
     taken : take (head_width + row_width * get_or numbers 2 0) numbers ≡ head_and_rows f
     unfolding rows_by
     taken =
         ap₂ (λ (n : ℕ) (l : List ℕ). take (head_width + row_width * n) l) count (en ∙ after_accepted _ f rows accepted_by)
-        ∙ take_at (head_and_rows f) (drop (head_width + row_width * partitions f) rows) (head_width + row_width * partitions f) (written-length f)
+        ∙ take_at (head_and_rows f) (drop (head_width + row_width * partitions f) rows) (head_width + row_width * partitions f) (written_length f)
 
   -- Read's own buffer, which held 0: as long as before, and no more numbers to store than it has, of a refusal too, which leaves it as
   -- found.
@@ -70,7 +70,7 @@ module _ {own : List Rule} (s : Supported own) (image : List ℕ) (place : ℕ) 
         ea
             ∙ ap (λ (l : List ℕ). sets bytes 0 (bytes_of l)) (taken rows size er z en)
             ∙ whole (head_and_rows f) bytes
-            (omega (arith, written-length f, rows_fit s image place rows (sym er ∙ z), count-written s image place rows (sym er ∙ z)))
-            ∙ ap (λ (n : ℕ). bytes_of (head_and_rows f) ++ drop (number_bytes * n) bytes) (written-length f)
+            (omega (arith, written_length f, rows_fit s image place rows (sym er ∙ z), count_written s image place rows (sym er ∙ z)))
+            ∙ ap (λ (n : ℕ). bytes_of (head_and_rows f) ++ drop (number_bytes * n) bytes) (written_length f)
             ∙ sym (host_rows_lem s image place bytes (sym same_answer ∙ z)),
       )

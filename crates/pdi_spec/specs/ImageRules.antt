@@ -32,5 +32,5 @@ pub record OwnsRun (f : File) (i : ℕ) : Type 0 where
   pub starts : 4 * (image_header f i).first_header_offset ≡ header_at f (run_start f i)
 
 pub record AllOwnRuns (f : File) : Type 0 where
-  pub each-run : (i : ℕ) → 1 ≤ i → i ≤ images f → OwnsRun f i
+  pub each_run : (i : ℕ) → 1 ≤ i → i ≤ images f → OwnsRun f i
   pub add_up : owned_up_to f (images f) ≡ partitions f

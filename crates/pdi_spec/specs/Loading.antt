@@ -31,7 +31,7 @@ load s m (d ∷ feeds) = load s (step s m d) feeds
 
 -- what a list must be: "the partitions with a load address, each once, in any order, and any 4U bytes for each"
 pub record Whole (s : Stated) (feeds : List Feed) : Type 0 where
-  pub each-once : Perm (map (λ (d : Feed). d.partition) feeds) (loadable s)
+  pub each_once : Perm (map (λ (d : Feed). d.partition) feeds) (loadable s)
   pub sized : (d : Feed) → Mem d feeds → length d.bytes ≡ (target s d).addresses.size
 
 -- every address that the list's steps write, one step after another
@@ -46,5 +46,5 @@ pub record Loaded (s : Stated) (m : Memory) (feeds : List Feed) : Type 0 where
   pub untouched : (address : ℕ) → ((p : ℕ) → Mem p (loadable s) → loads_to (s.load_range p) address ≡ false)
       → load s m feeds address ≡ m address
   pub any_order : (others : List Feed) → Perm feeds others → load s m others ≡ load s m feeds
-  pub once-each : Nodup (addresses_written s feeds)
+  pub once_each : Nodup (addresses_written s feeds)
   pub inside : (address : ℕ) → Mem address (addresses_written s feeds) → address < address_space

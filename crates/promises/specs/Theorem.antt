@@ -79,8 +79,8 @@ statements : Statements
 unfolding rows_by body_by billed body cut
 statements =
     record {
-      head = λ image place rows e. Claims.Rows.head-stated _ (asked image place) rows (verdict_is image place rows e);
-      row = λ image place rows e. Claims.Rows.row-stated _ (asked image place) rows (verdict_is image place rows e);
+      head = λ image place rows e. Claims.Rows.head_stated _ (asked image place) rows (verdict_is image place rows e);
+      row = λ image place rows e. Claims.Rows.row_stated _ (asked image place) rows (verdict_is image place rows e);
       hash_entry_lem = λ image place rows e p l h.
           Claims.Rows.hash_entry_stated (asked image place) p l h (blocks_kept image place rows e);
       rest = λ image place rows e. Claims.Rows.rest_untouched _ (asked image place) rows (verdict_is image place rows e);
@@ -108,7 +108,7 @@ owners =
       counts = Claims.Owners.owned_sum;
       one = Claims.Owners.one_owner;
       ascending = Claims.Owners.owners_ascend;
-      owned = Claims.Owners.owns-count;
+      owned = Claims.Owners.owns_count;
       first = Claims.Owners.owns_first;
     }
 
@@ -121,7 +121,7 @@ loading =
       one_memory = λ image place rows e m feeds others w. (Claims.Memory.read_loads image place rows e m feeds w).any_order others;
       once = λ image place rows e feeds w.
           let t = Claims.Memory.read_loads image place rows e (λ address. 0) feeds w in
-          (t.once-each, t.inside);
+          (t.once_each, t.inside);
       host_loaded = Claims.Answers.host_loads;
       written = Claims.Memory.addresses_are;
       exists = Claims.Memory.whole_exists;
@@ -162,8 +162,8 @@ unfolding envelope_head envelope_text longest_input
 printing =
     record {
       envelope = λ input h. ListingClaims.printed_bad input ((Claims.Cases.envelope_bad_lem input).1 h);
-      refused = λ input v s l rows h n. ListingClaims.printed_refused input _ (Claims.Cases.envelope-held input v s l) rows h n;
-      accepted = λ input v s l rows h e. ListingClaims.printed_accepted input _ (Claims.Cases.envelope-held input v s l) rows h e;
+      refused = λ input v s l rows h n. ListingClaims.printed_refused input _ (Claims.Cases.envelope_held input v s l) rows h n;
+      accepted = λ input v s l rows h e. ListingClaims.printed_accepted input _ (Claims.Cases.envelope_held input v s l) rows h e;
       longest = ListingClaims.printed_longest;
       some = ListingClaims.printed_some;
       cut = ListingClaims.cut_prints_same;

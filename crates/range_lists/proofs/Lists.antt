@@ -10,7 +10,7 @@ use Rattle.pdi_spec.specs.File.{File, is_full, partitions, header, hash_block}
 use Rattle.pdi_spec.specs.Headers.{Table}
 use Rattle.pdi_spec.specs.Lists.{numbers}
 use Rattle.pdi_spec.specs.Ranges.{Range, boot_range, table_with_optional, image_headers, header_ranges, block_ranges, hash_blocks}
-use Rattle.pdi_spec.proofs.Laws.Lists.{flat_map-numbers}
+use Rattle.pdi_spec.proofs.Laws.Lists.{flat_map_numbers}
 use Rattle.headers.specs.Headers.{block_of, table_of}
 use Rattle.headers.specs.declared.table.TableHeader.{TableHeader}
 use Rattle.chain_rules.specs.Chain.{Chain, file_of}
@@ -53,4 +53,4 @@ pub partition_more : {starts sizes starts' sizes' : List ℕ} {n n' : ℕ} {ys :
     → Filled starts' sizes' n' (xs ++ flat_map f (numbers 1 (i + 1)))
 partition_more {ys = ys} xs f i was now e =
     let all = and_then ys was now in
-    rw (flat_map-numbers f 1 i, add_comm 1 i, ← append_assoc, ← e) all
+    rw (flat_map_numbers f 1 i, add_comm 1 i, ← append_assoc, ← e) all

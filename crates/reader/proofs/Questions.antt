@@ -12,7 +12,7 @@ use Rattle.pdi_spec.specs.Rules.{buffer_too_short}
 use Rattle.pdi_spec.specs.Supported.{Supported}
 use Rattle.pdi_spec.specs.Verdict.{Rule, once, accepted, refused, verdict}
 use Rattle.pdi_spec.proofs.Laws.Answers.{bill_accepted, bill_refused, part_accepted, part_none, part_refused}
-use Rattle.pdi_spec.proofs.Laws.Kept.{lengths_stated, span-stated}
+use Rattle.pdi_spec.proofs.Laws.Kept.{lengths_stated, span_stated}
 use Rattle.pdi_spec.proofs.Laws.Once.{once_kept}
 use Rattle.pdi_spec.proofs.Laws.Owners.{owner_refused, owner_none, owner_accepted}
 use Rattle.pdi_spec.proofs.Laws.Refusals.{buffer_accepts, refusal_below, refusal_p}
@@ -112,7 +112,7 @@ module _ {own : List Rule} (s : Supported own) (bytes : List ℕ) (place : ℕ) 
       unfolding without_buffer body
       ends =
           let high' : p ≤ partitions f = omega (arith, count_is) in
-          let span = span-stated f p low high' (accepted_kept (without_buffer own) f (accepted_is e)
+          let span = span_stated f p low high' (accepted_kept (without_buffer own) f (accepted_is e)
           (mem-cons_of_mem rule1 s.spans)) in
           let order = (lengths_stated f p low high' (accepted_kept (without_buffer own) f (accepted_is e)
           (mem-cons_of_mem rule1 s.lengths))).2 in

@@ -12,21 +12,21 @@ use Rattle.pdi_spec.specs.File.{File, table, partitions, partition_numbers, head
 use Rattle.pdi_spec.specs.Ranges.{Range, span, span_of, load_range, load_range_of}
 use Rattle.pdi_spec.specs.Answers.{Row, row_numbers, row_of, hash_entry, billed, head, head_and_rows}
 use Rattle.pdi_spec.specs.Limits.{head_width, row_width}
-use Rattle.pdi_spec.proofs.Laws.Lists.{flat_map-length, flat_map-numbers, numbers-length, sets-append}
+use Rattle.pdi_spec.proofs.Laws.Lists.{flat_map_length, flat_map_numbers, numbers_length, sets_append}
 use Rattle.rows.specs.Rows.{first_rows, overwritten}
 
 -- one store more of a row
 pub store_next : (l row : List ℕ) (at k : ℕ) → k < length row
     → set (sets l at (take k row)) (at + k) (get_or row k 0) ≡ sets l at (take (k + 1) row)
 store_next l row at k h =
-    sets-append l (take k row) (get_or row k 0 ∷ []) at (at + k) (omega (arith, length-take-le k row (omega arith)))
+    sets_append l (take k row) (get_or row k 0 ∷ []) at (at + k) (omega (arith, length-take-le k row (omega arith)))
     ∙ ap (sets l at) (sym (take-suc row k 0 h) ∙ ap (λ (n : ℕ). take n row) (sym (add-one k)))
 
 -- ---- rows
 
-row-width : (r : Row) → length (row_numbers r) ≡ row_width
+row_width_lem : (r : Row) → length (row_numbers r) ≡ row_width
 unfolding row_numbers
-row-width r = refl
+row_width_lem r = refl
 
 -- a row, from its header, the header's two ranges and its hash entry
 pub row_told : (f : File) (p : ℕ) {h : Header} {s r : Range} {key entry : ℕ} → h ≡ header f p → s ≡ span_of h → r ≡ (load_range_of h).addresses
@@ -38,15 +38,15 @@ row_told f p e es er ek ee = rw (es, er, ek, ee, e) refl
 pub rows_length : (f : File) (n : ℕ) → length (first_rows f n) ≡ row_width * n
 unfolding first_rows
 rows_length f n =
-    flat_map-length row_width (λ (p : ℕ). row_numbers (row_of f p)) (λ p. row-width (row_of f p)) (numbers 1 n)
-    ∙ ap (λ (k : ℕ). row_width * k) (numbers-length 1 n)
+    flat_map_length row_width (λ (p : ℕ). row_numbers (row_of f p)) (λ p. row_width_lem (row_of f p)) (numbers 1 n)
+    ∙ ap (λ (k : ℕ). row_width * k) (numbers_length 1 n)
 
 -- one partition more
 rows_more : (f : File) (i : ℕ) → first_rows f (i + 1) ≡ first_rows f i ++ row_numbers (row_of f (i + 1))
 unfolding first_rows
 rows_more f i =
     let rows : ℕ → List ℕ = λ p. row_numbers (row_of f p) in
-    flat_map-numbers rows 1 i ∙ ap (λ (p : ℕ). flat_map rows (numbers 1 i) ++ rows p) {x = 1 + i} {y = i + 1} (omega arith)
+    flat_map_numbers rows 1 i ∙ ap (λ (p : ℕ). flat_map rows (numbers 1 i) ++ rows p) {x = 1 + i} {y = i + 1} (omega arith)
 
 -- a turn of the loop: the first i rows are stored, and then the next one
 pub turn : (f : File) (start : List ℕ) (i : ℕ) {rows row after : List ℕ} → rows ≡ sets start head_width (first_rows f i)
@@ -54,7 +54,7 @@ pub turn : (f : File) (start : List ℕ) (i : ℕ) {rows row after : List ℕ} �
     → after ≡ sets start head_width (first_rows f (i + 1))
 turn f start i er ew ea =
     rw (ea, er, ew)
-    (sets-append start (first_rows f i) (row_numbers (row_of f (i + 1))) head_width (head_width + row_width * i) (omega (arith, rows_length f i))
+    (sets_append start (first_rows f i) (row_numbers (row_of f (i + 1))) head_width (head_width + row_width * i) (omega (arith, rows_length f i))
     ∙ ap (sets start head_width) (sym (rows_more f i)))
 
 -- ---- the whole

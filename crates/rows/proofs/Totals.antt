@@ -11,9 +11,9 @@ use Rattle.pdi_spec.proofs.Laws.Lists.{sum_more}
 unfoldable pub totals : File → ℕ → ℕ
 totals f n = sum_of (map (λ (p : ℕ). (header f p).total) (numbers 1 n))
 
-pub totals-none : (f : File) → totals f 0 ≡ 0
+pub totals_none : (f : File) → totals f 0 ≡ 0
 unfolding totals numbers sum_of
-totals-none f = refl
+totals_none f = refl
 
 pub totals_more : (f : File) (i : ℕ) → totals f (i + 1) ≡ totals f i + (header f (i + 1)).total
 unfolding totals

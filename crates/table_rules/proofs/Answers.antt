@@ -12,7 +12,7 @@ use Rattle.pdi_spec.specs.Ranges.{past, end_of}
 use Rattle.pdi_spec.specs.RuleList.{table_rules}
 use Rattle.pdi_spec.specs.Rules.{table_outside}
 use Rattle.pdi_spec.specs.Verdict.{Outcome, once, first_broken}
-use Rattle.pdi_spec.proofs.Laws.Broken.{at_zero, once-verdict}
+use Rattle.pdi_spec.proofs.Laws.Broken.{at_zero, once_verdict}
 use Rattle.pdi_spec.proofs.Laws.Tests.{or_right}
 use Rattle.headers.specs.Headers.{table_of}
 use Rattle.headers.specs.declared.table.TableHeader.{TableHeader}
@@ -23,7 +23,7 @@ use Rattle.table_rules.specs.declared.TableAnswer.{TableAnswer}
 answer_told : (f : File) {found : Option ℕ} → first_broken table_rules f 0 ≡ found → table_answer_of (at_zero found) (table f) ≡ table_answer f
 unfolding table_answer table_rules once
 answer_told f e =
-    let verdict_is = once-verdict table_rules f (refl, (refl, (refl, (refl, (refl, (refl, (refl, tt))))))) in
+    let verdict_is = once_verdict table_rules f (refl, (refl, (refl, (refl, (refl, (refl, (refl, tt))))))) in
     sym (ap (λ (o : Outcome). table_answer_of o (table f)) (verdict_is ∙ ap at_zero e))
 
 pub refused_told : (f : File) {k : ℕ} → first_broken table_rules f 0 ≡ some k → TableAnswer.Refused k ≡ table_answer f

@@ -10,21 +10,21 @@ use Rattle.listing.specs.Printed.{line, number_and_p, lines, printed_of, answer_
 -- ---- lines of rows
 
 -- rows one after another, and anything behind them
-row-lines : (g : ℕ → List ℕ) → ((p : ℕ) → length (g p) ≡ row_width) → (a n : ℕ) (rest : List ℕ)
+row_lines_lem : (g : ℕ → List ℕ) → ((p : ℕ) → length (g p) ≡ row_width) → (a n : ℕ) (rest : List ℕ)
     → row_lines n (flat_map g (numbers a n) ++ rest) ≡ flat_map (λ (p : ℕ). line (g p)) (numbers a n)
 unfolding row_lines flat_map numbers
-row-lines g wide a zero rest = refl
-row-lines g wide a (suc n) rest =
+row_lines_lem g wide a zero rest = refl
+row_lines_lem g wide a (suc n) rest =
     let behind = flat_map g (numbers (suc a) n) ++ rest in
     ap (row_lines (suc n)) (append_assoc (g a) (flat_map g (numbers (suc a) n)) rest)
     ∙ ap₂ (λ (x y : List ℕ). line x ++ row_lines n y) (take_at (g a) behind row_width (wide a)) (drop_at (g a) behind row_width (wide a))
-    ∙ ap (λ (l : List ℕ). line (g a) ++ l) (row-lines g wide (suc a) n rest)
+    ∙ ap (λ (l : List ℕ). line (g a) ++ l) (row_lines_lem g wide (suc a) n rest)
 
 -- a row buffer that has the head and the rows in front
 buffer_lines_lem : (f : File) (rest : List ℕ) → buffer_lines (head_and_rows f ++ rest) ≡ lines f
 unfolding buffer_lines lines head_and_rows head partition_numbers row_numbers
 buffer_lines_lem f rest =
-    ap (λ (l : List ℕ). line (head f) ++ l) (row-lines (λ (p : ℕ). row_numbers (row_of f p)) (λ p. refl) 1 (partitions f) rest)
+    ap (λ (l : List ℕ). line (head f) ++ l) (row_lines_lem (λ (p : ℕ). row_numbers (row_of f p)) (λ p. refl) 1 (partitions f) rest)
 
 -- ---- by the outcome
 

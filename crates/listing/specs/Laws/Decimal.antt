@@ -72,11 +72,11 @@ tenth : (k n : ℕ) → n < 10 ^ suc (suc k) → n / 10 < 10 ^ suc k
 tenth k n h = omega arith
 
 -- a number below a power of ten has at most as many digits as that power has zeros
-pub decimal-length : (k n : ℕ) → n < 10 ^ suc k → length (decimal n) ≤ suc k
-decimal-length zero n h = omega (arith, ap length (decimal_small n h))
-decimal-length (suc k) n h =
+pub decimal_length : (k n : ℕ) → n < 10 ^ suc k → length (decimal n) ≤ suc k
+decimal_length zero n h = omega (arith, ap length (decimal_small n h))
+decimal_length (suc k) n h =
     ⊎_elim (λ few. omega (arith, ap length (decimal_small n few)))
-    (λ many. omega (arith, length_more n many, decimal-length k (n / 10) (tenth k n h))) (one_or_more n)
+    (λ many. omega (arith, length_more n many, decimal_length k (n / 10) (tenth k n h))) (one_or_more n)
 
 -- ---- which bytes
 
@@ -93,8 +93,8 @@ all_digits =
     by_digits (λ n. Every IsDigit (decimal n)) (λ n h. rw (decimal_small n h) ((omega arith, omega arith), tt))
     (λ n h k. rw (decimal_more n h) (every_append IsDigit (decimal (n / 10)) _ k ((omega arith, omega arith), tt)))
 
-pub each-digit : (n c : ℕ) → Mem c (decimal n) → (0x30 ≤ c) × (c ≤ 0x39)
-each-digit n = every_mem IsDigit (λ c. ×_prop le_prop le_prop) (decimal n) (all_digits n)
+pub each_digit : (n c : ℕ) → Mem c (decimal n) → (0x30 ≤ c) × (c ≤ 0x39)
+each_digit n = every_mem IsDigit (λ c. ×_prop le_prop le_prop) (decimal n) (all_digits n)
 
 -- the first one is 0 only of the number 0
 no_zero : (n : ℕ) → 1 ≤ n → get_or (decimal n) 0 0 ≡ 0x30 → ⊥
@@ -117,10 +117,10 @@ leading n h = go (decimal n) refl (decimal_some n) (no_zero n h)
 
 -- ---- reading back
 
-value-append : (before : ℕ) (xs ys : List ℕ) → value_from before (xs ++ ys) ≡ value_from (value_from before xs) ys
+value_append : (before : ℕ) (xs ys : List ℕ) → value_from before (xs ++ ys) ≡ value_from (value_from before xs) ys
 unfolding value_from
-value-append before [] ys = refl
-value-append before (c ∷ xs) ys = value-append (10 * before + (c - 0x30)) xs ys
+value_append before [] ys = refl
+value_append before (c ∷ xs) ys = value_append (10 * before + (c - 0x30)) xs ys
 
 pub reads_back : (n : ℕ) → value (decimal n) ≡ n
 unfolding value value_from digit
@@ -128,5 +128,5 @@ reads_back =
     by_digits (λ n. value (decimal n) ≡ n) (λ n h. ap (value_from 0) (decimal_small n h) ∙ omega arith)
     (λ n h k.
     ap (value_from 0) (decimal_more n h)
-    ∙ value-append 0 (decimal (n / 10)) (digit (n % 10) ∷ [])
+    ∙ value_append 0 (decimal (n / 10)) (digit (n % 10) ∷ [])
     ∙ omega (arith, k))

@@ -105,9 +105,9 @@ module _ {own : List Rule} (s : Supported own) where
 -- ---- the function's answer
 
 -- it is at most the buffer's length
-pub answer-within : (input out : List ℕ) → ((i : ℕ) → get_or input i 0 < 256) → print_answer input out ≤ length out
+pub answer_within : (input out : List ℕ) → ((i : ℕ) → get_or input i 0 < 256) → print_answer input out ≤ length out
 unfolding print_answer
-answer-within input out bytes = go (ltb (length out) longest_printed) refl
+answer_within input out bytes = go (ltb (length out) longest_printed) refl
   where
     go : (t : Bool) → ltb (length out) longest_printed ≡ t → cond t 0 (length (printed input)) ≤ length out
     go true e = omega arith
@@ -134,8 +134,8 @@ unfolding printed_by printed_as
 printed_holds own input f e = ap (printed_as own) e
 
 -- what follows the longest input's length and one byte more is never looked at
-pub cut-printed : (own : List Rule) (input : List ℕ) (n : ℕ) → longest_input < n → n ≤ length input
+pub cut_printed : (own : List Rule) (input : List ℕ) (n : ℕ) → longest_input < n → n ≤ length input
     → printed_by own (take n input) ≡ printed_by own input
-cut-printed own input n h k =
+cut_printed own input n h k =
     printed_bad own (take n input) (too_long (take n input) (omega (arith, length-take-le n input k)))
     ∙ sym (printed_bad own input (too_long input (omega arith)))

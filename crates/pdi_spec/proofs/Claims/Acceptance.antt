@@ -31,9 +31,9 @@ pub host_accepts : (image : List ℕ) (place : ℕ) (rows : List ℕ)
 host_accepts = Laws.Answers.host_accepts plain
 
 -- Rule 6 asks for 1 to 32 images and 1 to 32 partitions.
-pub counts-stated : (f : File) → Kept rule6 f
+pub counts_stated : (f : File) → Kept rule6 f
     → (1 ≤ (table f).images) × ((table f).images ≤ most_images) × (1 ≤ partitions f) × (partitions f ≤ most_partitions)
-counts-stated = Laws.Kept.counts-stated
+counts_stated = Laws.Kept.counts_stated
 
 -- It asks for image headers of 16 words (document 02, CR 1).
 pub image_headers_stated : (f : File) → Kept rule6 f → image_header_words_of (table f).header_sizes ≡ 16
@@ -53,11 +53,11 @@ pub lengths_stated : (f : File) (p : ℕ) → 1 ≤ p → p ≤ partitions f →
 lengths_stated = Laws.Kept.lengths_stated
 
 -- Rule 15 asks that the span ends within the image.
-pub span-stated : (f : File) (p : ℕ) → 1 ≤ p → p ≤ partitions f → Kept rule15 f
+pub span_stated : (f : File) (p : ℕ) → 1 ≤ p → p ≤ partitions f → Kept rule15 f
     → 4 * (header f p).data_offset + 4 * (header f p).total ≤ length f.bytes
-span-stated = Laws.Kept.span-stated
+span_stated = Laws.Kept.span_stated
 
 -- Rule 16 asks that a load range ends at 2^64 at most.
-pub load-stated : (f : File) (p : ℕ) → 1 ≤ p → p ≤ partitions f → Kept rule16 f → loads f p ≡ true
+pub load_stated : (f : File) (p : ℕ) → 1 ≤ p → p ≤ partitions f → Kept rule16 f → loads f p ≡ true
     → load_address_of (header f p) + 4 * (header f p).unencrypted ≤ 0x1_0000_0000_0000_0000
-load-stated = Laws.Kept.load-stated
+load_stated = Laws.Kept.load_stated

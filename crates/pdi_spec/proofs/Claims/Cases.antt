@@ -17,9 +17,9 @@ pub envelope_bad_lem : (input : List ℕ)
 envelope_bad_lem = Laws.Envelope.envelope_bad_lem
 
 -- .. and else it holds the bytes behind the first 9, and the place that bytes 5 to 8 state.
-pub envelope-held : (input : List ℕ) → byte_at input 0 ≡ 1 → big_endian_at input 1 ≤ longest_program_image
+pub envelope_held : (input : List ℕ) → byte_at input 0 ≡ 1 → big_endian_at input 1 ≤ longest_program_image
     → length input ≡ envelope_head + big_endian_at input 1 → envelope input ≡ holds (asked (drop envelope_head input) (big_endian_at input 5))
-envelope-held = Laws.Envelope.envelope-held
+envelope_held = Laws.Envelope.envelope_held
 
 -- "Block 0 of 004 has 320 bytes and 8 of padding, which is six entries".
 pub six_entries : size_of_entries 6 ≡ 320

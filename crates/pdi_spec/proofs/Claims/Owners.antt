@@ -58,10 +58,10 @@ module _ (image : List ℕ) (place : ℕ) (rows : List ℕ) where
     owners_ascend = Laws.Owners.owners_ascend plain image place ((Laws.Answers.read_accepts plain image place rows).0 e).1
 
     -- Image i owns exactly as many partitions as its word 1 says ..
-    pub owns-count : (i : ℕ) → 1 ≤ i → i ≤ images (asked image place)
+    pub owns_count : (i : ℕ) → 1 ≤ i → i ≤ images (asked image place)
         → count_of (λ (p : ℕ). eqb (owner_answer image place p) i) (partition_numbers (asked image place))
         ≡ (image_header (asked image place) i).partitions
-    owns-count = Laws.Owners.owns-count plain image place ((Laws.Answers.read_accepts plain image place rows).0 e).1
+    owns_count = Laws.Owners.owns_count plain image place ((Laws.Answers.read_accepts plain image place rows).0 e).1
 
     -- .. and the first of them is the one whose header its word 0 names.
     pub owns_first : (i : ℕ) → 1 ≤ i → i ≤ images (asked image place)

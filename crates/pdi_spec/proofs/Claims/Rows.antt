@@ -8,12 +8,12 @@ use Rattle.pdi_spec.proofs.Laws
 -- ---- rows
 
 -- The head states kind, images, partitions and the billed bytes.
-pub head-stated : (rs : List Rule) (f : File) (rows : List ℕ) → verdict rs f ≡ accepted
+pub head_stated : (rs : List Rule) (f : File) (rows : List ℕ) → verdict rs f ≡ accepted
     → take head_width (rows_after rs f rows) ≡ (table f).kind ∷ (table f).images ∷ partitions f ∷ billed f ∷ []
-head-stated = Laws.Rows.head-stated
+head_stated = Laws.Rows.head_stated
 
 -- Row p states the words of header p.
-pub row-stated : (rs : List Rule) (f : File) (rows : List ℕ) → verdict rs f ≡ accepted → (p : ℕ) → 1 ≤ p → p ≤ partitions f
+pub row_stated : (rs : List Rule) (f : File) (rows : List ℕ) → verdict rs f ≡ accepted → (p : ℕ) → 1 ≤ p → p ≤ partitions f
     → take row_width (drop (head_width + row_width * (p - 1)) (rows_after rs f rows))
     ≡ 4 * (header f p).data_offset
     ∷ 4 * (header f p).total
@@ -25,7 +25,7 @@ pub row-stated : (rs : List Rule) (f : File) (rows : List ℕ) → verdict rs f 
     ∷ (header f p).attributes
     ∷ []
 unfolding row_numbers row_of span load_range
-row-stated = Laws.Rows.row_after
+row_stated = Laws.Rows.row_after
 
 -- Past the rows the buffer is as found.
 pub rest_untouched : (rs : List Rule) (f : File) (rows : List ℕ) → verdict rs f ≡ accepted
@@ -69,19 +69,19 @@ pub fourth_is_bill : (image : List ℕ) (place : ℕ) (rows : List ℕ) → read
 fourth_is_bill = Laws.Answers.fourth_is_bill plain
 
 -- The body of partition p is the first 4E bytes of its span, and as many ..
-pub body-stated : (rs : List Rule) (f : File) → verdict rs f ≡ accepted → Mem rule14 rs → Mem rule15 rs
+pub body_stated : (rs : List Rule) (f : File) → verdict rs f ≡ accepted → Mem rule14 rs → Mem rule15 rs
     → (p : ℕ) → 1 ≤ p → p ≤ partitions f
     → (body_under rs f p ≡ take (4 * (header f p).encrypted) (cut (span f p) f.bytes))
     × (length (body_under rs f p) ≡ 4 * (header f p).encrypted)
-body-stated = Laws.Answers.body_under_lem
+body_stated = Laws.Answers.body_under_lem
 
 -- .. and so is body's answer.
 pub body_answer_stated : (image : List ℕ) (place p : ℕ) → verdict (without_buffer plain_rules) (asked image place) ≡ accepted
     → 1 ≤ p → p ≤ partitions (asked image place)
     → (body_answer image place p ≡ take (4 * (header (asked image place) p).encrypted) (cut (span (asked image place) p) image))
     × (length (body_answer image place p) ≡ 4 * (header (asked image place) p).encrypted)
-body_answer_stated = Laws.Answers.body-stated plain
+body_answer_stated = Laws.Answers.body_stated plain
 
 -- The body of a p that isn't 1 to N is empty.
 pub no_such_body : (rs : List Rule) (f : File) (p : ℕ) → (p < 1) ⊎ (partitions f < p) → body_under rs f p ≡ []
-no_such_body = Laws.Answers.body-none
+no_such_body = Laws.Answers.body_none

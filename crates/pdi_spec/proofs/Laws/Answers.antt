@@ -6,7 +6,7 @@ use mathlib.Core.List.{List, [], ◌∷◌, ◌++◌, flat_map, Mem, mem-cons_of
 use Rattle.std.proofs.Math.Path.{refl, sym, ap}
 use Rattle.std.proofs.Math.ListN.{length, take}
 use Rattle.pdi_spec.specs.{Limits.head_width, Limits.row_width, Limits.buffer_numbers, Limits.number_bytes, Limits.buffer_bytes, File.File, File.partitions, File.header, Ranges.Range, Ranges.span, Ranges.body, Verdict.Rule, Verdict.Outcome, Verdict.accepted, Verdict.refused, Verdict.verdict, RuleList.rule1, RuleList.without_buffer, RuleList.with_rows, RuleList.with_host_rows, RuleList.rule14, RuleList.rule15, Answers.answer, Answers.if_accepted, Answers.head, Answers.head_and_rows, Answers.written, Answers.rows_after, Answers.cut, Answers.asked, Answers.read_by, Answers.rows_by, Answers.bill_by, Answers.body_by, Answers.billed, Answers.bill_under, Answers.empty_part, Answers.part_under, Answers.body_under, Host.le_bytes, Host.written_bytes, Host.bytes_after, Host.host_read_by, Host.host_rows_by, Stated.by_rows, Stated.in_spans, Loading.Memory, Loading.Feed, Loading.Whole, Loading.Loaded, Supported.Supported}
-use Rattle.pdi_spec.proofs.Laws.{Lists.flat_map-length, Partitions.refused_gives, Partitions.other_gives, Partitions.accepted_gives, Refusals.answer_refused, Refusals.with_room, Refusals.few_partitions, Refusals.zero_accepted, Refusals.zero_accepts, Refusals.buffer_accepts, Rows.written-length, Rows.after_accepted, Rows.after_refused, Rows.length_after, Rows.rows_state, Stated.accepted_loads, Stated.accepted_bill, Verdict.accepted_kept, Kept.lengths_stated, Kept.span-stated}
+use Rattle.pdi_spec.proofs.Laws.{Lists.flat_map_length, Partitions.refused_gives, Partitions.other_gives, Partitions.accepted_gives, Refusals.answer_refused, Refusals.with_room, Refusals.few_partitions, Refusals.zero_accepted, Refusals.zero_accepts, Refusals.buffer_accepts, Rows.written_length, Rows.after_accepted, Rows.after_refused, Rows.length_after, Rows.rows_state, Stated.accepted_loads, Stated.accepted_bill, Verdict.accepted_kept, Kept.lengths_stated, Kept.span_stated}
 
 -- ---- bill
 
@@ -34,9 +34,9 @@ pub part_none : (rs : List Rule) (f : File) (p : ℕ) → (p < 1) ⊎ (partition
 unfolding part_under
 part_none rs f p = other_gives rs f p (body f p) empty_part
 
-pub body-none : (rs : List Rule) (f : File) (p : ℕ) → (p < 1) ⊎ (partitions f < p) → body_under rs f p ≡ []
+pub body_none : (rs : List Rule) (f : File) (p : ℕ) → (p < 1) ⊎ (partitions f < p) → body_under rs f p ≡ []
 unfolding body_under cut
-body-none rs f p h = ap (λ (r : Range). cut r f.bytes) (part_none rs f p h)
+body_none rs f p h = ap (λ (r : Range). cut r f.bytes) (part_none rs f p h)
 
 -- where a list accepts, it is the body of partition p
 pub part_accepted : (rs : List Rule) (f : File) → verdict rs f ≡ accepted → (p : ℕ) → 1 ≤ p → p ≤ partitions f
@@ -58,7 +58,7 @@ unfolding cut body span
 body_under_lem rs f e m14 m15 p low high =
     let here = body_accepted rs f e p low high in
     let order = (lengths_stated f p low high (accepted_kept rs f e m14)).2 in
-    let end = span-stated f p low high (accepted_kept rs f e m15) in
+    let end = span_stated f p low high (accepted_kept rs f e m15) in
     let stored : List ℕ = drop (4 * (header f p).data_offset) f.bytes in (
       here ∙ sym (take-take (4 * (header f p).encrypted) (4 * (header f p).total) stored (omega arith)),
       ap length here ∙ length-take (4 * (header f p).encrypted) stored ∙ omega (arith, length-drop (4 * (header f p).data_offset) f.bytes),
@@ -73,7 +73,7 @@ le_length zero number = refl
 le_length (suc n) number = ap suc (le_length n (number / 256))
 
 pub bytes_length : (xs : List ℕ) → length (flat_map (le_bytes number_bytes) xs) ≡ number_bytes * length xs
-bytes_length = flat_map-length number_bytes (le_bytes number_bytes) (le_length number_bytes)
+bytes_length = flat_map_length number_bytes (le_bytes number_bytes) (le_length number_bytes)
 
 module _ (own : List Rule) (image : List ℕ) (place : ℕ) where
   -- refused, the row buffer stays as found
@@ -136,12 +136,12 @@ module _ {own : List Rule} (s : Supported own) (image : List ℕ) (place : ℕ) 
       bill_verdict = (read_accepts.0 e).1
 
       -- the head's third number counts the partitions, so that a buffer that serves has room for their rows
-      pub count-written : get_or (rows_by own image place rows) 2 0 ≡ partitions (asked image place)
+      pub count_written : get_or (rows_by own image place rows) 2 0 ≡ partitions (asked image place)
       unfolding rows_by by_rows
-      count-written = (rows_state _ f rows (read_verdict e)).same_count
+      count_written = (rows_state _ f rows (read_verdict e)).same_count
 
       pub rows_fit : head_width + row_width * get_or (rows_by own image place rows) 2 0 ≤ buffer_numbers
-      rows_fit = omega (arith, count-written, few_partitions s f bill_verdict)
+      rows_fit = omega (arith, count_written, few_partitions s f bill_verdict)
 
       pub fourth_is_bill : take 1 (drop 3 (rows_by own image place rows)) ≡ bill_by own image place ∷ []
       unfolding rows_by bill_by head_and_rows head
@@ -166,11 +166,11 @@ module _ {own : List Rule} (s : Supported own) (image : List ℕ) (place : ℕ) 
         ++ drop (number_bytes * (head_width + row_width * partitions (asked image place))) rows
     unfolding host_read_by host_rows_by bytes_after written_bytes written if_accepted with_host_rows
     host_rows_lem e =
-        let size = bytes_length (head_and_rows f) ∙ ap (λ (n : ℕ). number_bytes * n) (written-length f) in
+        let size = bytes_length (head_and_rows f) ∙ ap (λ (n : ℕ). number_bytes * n) (written_length f) in
         rw (zero_accepted s buffer_bytes (length rows) f e) (rw size refl)
 
-  pub body-stated : (p : ℕ) → verdict (without_buffer own) (asked image place) ≡ accepted → 1 ≤ p → p ≤ partitions (asked image place)
+  pub body_stated : (p : ℕ) → verdict (without_buffer own) (asked image place) ≡ accepted → 1 ≤ p → p ≤ partitions (asked image place)
       → (body_by own image place p ≡ take (4 * (header (asked image place) p).encrypted) (cut (span (asked image place) p) image))
       × (length (body_by own image place p) ≡ 4 * (header (asked image place) p).encrypted)
   unfolding body_by
-  body-stated p e = body_under_lem (without_buffer own) f e (listed s.lengths) (listed s.spans) p
+  body_stated p e = body_under_lem (without_buffer own) f e (listed s.lengths) (listed s.spans) p

@@ -26,12 +26,12 @@ Onces f (r ∷ rs) = (r.tried f ≡ 0 ∷ []) × Onces f rs
 abbrev pub at_zero : Option ℕ → Outcome
 at_zero found = Option-elim found accepted (λ k. refused k 0)
 
-pub once-verdict : (rs : List Rule) (f : File) → Onces f rs → verdict rs f ≡ at_zero (first_broken rs f 0)
+pub once_verdict : (rs : List Rule) (f : File) → Onces f rs → verdict rs f ≡ at_zero (first_broken rs f 0)
 unfolding verdict first_broken first_of Option-elim
-once-verdict [] f h = refl
-once-verdict (r ∷ rs) f h =
+once_verdict [] f h = refl
+once_verdict (r ∷ rs) f h =
     ap (λ (l : List ℕ). Option-elim (first_of (r.broken f) l) (verdict rs f) (refused r.number)) h.0
-    ∙ go (r.broken f 0) (once-verdict rs f h.1)
+    ∙ go (r.broken f 0) (once_verdict rs f h.1)
   where
     go : (b : Bool) → verdict rs f ≡ at_zero (first_broken rs f 0)
         → Option-elim (cond b (some 0) (first_of (r.broken f) [])) (verdict rs f) (refused r.number)

@@ -17,10 +17,10 @@ module _ (input : List ℕ) where
   stated = big_endian_at input 1
 
   -- version 1, a length that is not over the longest, and as many bytes
-  pub envelope-held : byte_at input 0 ≡ 1 → big_endian_at input 1 ≤ longest_program_image → length input ≡ envelope_head + big_endian_at input 1
+  pub envelope_held : byte_at input 0 ≡ 1 → big_endian_at input 1 ≤ longest_program_image → length input ≡ envelope_head + big_endian_at input 1
       → envelope input ≡ holds (asked (drop envelope_head input) (big_endian_at input 5))
   unfolding envelope envelope_bad
-  envelope-held v s l =
+  envelope_held v s l =
       rw (eq-eqb (byte_at input 0) 1 v, le-ltb longest_program_image stated s, eq-eqb (length input) (envelope_head + stated) l) refl
 
   is_bad : envelope_bad input ≡ true → envelope input ≡ bad
@@ -40,7 +40,7 @@ module _ (input : List ℕ) where
       from e (inl v) =
           ⊎_elim (λ s. inr (inl (ltb-true _ _ s)))
           (λ s.
-          ⊎_elim (λ l. absurd (not_both (sym e ∙ envelope-held (eqb-true _ _ v) (ltb-false _ _ s) (eqb-true _ _ l))))
+          ⊎_elim (λ l. absurd (not_both (sym e ∙ envelope_held (eqb-true _ _ v) (ltb-false _ _ s) (eqb-true _ _ l))))
           (λ l. inr (inr (eqb-false _ _ l))) (either (eqb (length input) (envelope_head + stated))))
           (either (ltb longest_program_image stated))
 

@@ -57,12 +57,12 @@ only_rest test x xs h r = (
 )
 
 -- a count of 1: there is such an entry
-count-one : (test : ℕ → Bool) (xs : List ℕ) → count_of test xs ≡ 1 → Only test xs
+count_one : (test : ℕ → Bool) (xs : List ℕ) → count_of test xs ≡ 1 → Only test xs
 unfolding count_of
-count-one test [] e = absurd (omega arith)
-count-one test (x ∷ xs) e =
+count_one test [] e = absurd (omega arith)
+count_one test (x ∷ xs) e =
     ⊎_elim (λ h. only_head test x xs h (count_zero test xs (omega (arith, rw h at e))))
-    (λ h. only_rest test x xs h (count-one test xs (omega (arith, rw h at e)))) (either (test x))
+    (λ h. only_rest test x xs h (count_one test xs (omega (arith, rw h at e)))) (either (test x))
 
 -- ---- the own entry
 
@@ -74,7 +74,7 @@ unfolding hash_block_bad own_entries entry_numbers hash_entry_in has_index Optio
 own_entry bytes i b e =
     let n = entries_in b.size in
     let one = equal_told (own_entries bytes b i) 1 (false_at _ e 5) in
-    let r = count-one (has_index bytes b i) (numbers 0 n) one in (
+    let r = count_one (has_index bytes b i) (numbers 0 n) one in (
       r.0,
       omega (arith, mem_numbers 0 n r.2),
       rw r.1 refl,

@@ -9,7 +9,7 @@ use Rattle.std.proofs.Math.Path.{sym, ap}
 use Rattle.std.proofs.Math.Dec.{eqb}
 use borrow.Author.Tests.{eqb-true, eqb-false}
 use Rattle.pdi_spec.specs.{Limits.head_width, Limits.row_width, Limits.number_bytes, File.File, File.partitions, Verdict.Rule, Answers.head_and_rows, Answers.asked, Answers.read_by, Answers.rows_by, Host.le_bytes, Host.le_number, Host.numbers_from, Host.host_numbers, Host.host_read_by, Host.host_rows_by, Supported.Supported}
-use Rattle.pdi_spec.proofs.Laws.{Lists.Every, Tests.either, Refusals.few_partitions, Rows.written-length, Rows.after_accepted, Answers.le_length, Answers.bytes_length, Answers.host_accepts, Answers.read_refused, Answers.host_refused, Answers.read_verdict, Answers.host_rows_lem, Questions.host_beside, Widths.all_narrow}
+use Rattle.pdi_spec.proofs.Laws.{Lists.Every, Tests.either, Refusals.few_partitions, Rows.written_length, Rows.after_accepted, Answers.le_length, Answers.bytes_length, Answers.host_accepts, Answers.read_refused, Answers.host_refused, Answers.read_verdict, Answers.host_rows_lem, Questions.host_beside, Widths.all_narrow}
 
 -- ---- numbers and their bytes
 
@@ -26,9 +26,9 @@ unfolding numbers_from
 from_length zero bytes = refl
 from_length (suc n) bytes = ap suc (from_length n (drop number_bytes bytes))
 
-pub numbers-length : (bytes : List ℕ) → length (host_numbers bytes) ≡ length bytes / number_bytes
+pub numbers_length : (bytes : List ℕ) → length (host_numbers bytes) ≡ length bytes / number_bytes
 unfolding host_numbers
-numbers-length bytes = from_length _ bytes
+numbers_length bytes = from_length _ bytes
 
 -- numbers that were stored are read, and then what stands behind them
 stored_first : (n k : ℕ) (xs rest : List ℕ) → k ≡ length xs + n → Every (λ (x : ℕ). x < 2 ^ 64) xs
@@ -68,7 +68,7 @@ module _ {own : List Rule} (s : Supported own) (image : List ℕ) (place : ℕ) 
   -- the host's read answers as read does of the buffer's numbers
   pub host_is_read : host_read_by own image place bytes ≡ read_by own image place (host_numbers bytes)
   host_is_read =
-      let long = numbers-length bytes in
+      let long = numbers_length bytes in
       host_beside own image place (host_numbers bytes) bytes (λ h. omega (arith, h, long), λ h. omega (arith, h, long))
 
   -- and what it leaves there is what read leaves of them
@@ -95,11 +95,11 @@ module _ {own : List Rule} (s : Supported own) (image : List ℕ) (place : ℕ) 
           let stored = flat_map (le_bytes number_bytes) (head_and_rows f) in
           let size : length (stored ++ drop (number_bytes * width) bytes) ≡ length bytes =
           length-append stored (drop (number_bytes * width) bytes)
-          ∙ omega (arith, bytes_length (head_and_rows f), written-length f, length-drop (number_bytes * width) bytes, few, t.0) in
+          ∙ omega (arith, bytes_length (head_and_rows f), written_length f, length-drop (number_bytes * width) bytes, few, t.0) in
           let count : length bytes / number_bytes ≡ width + rest = omega (arith, few, t.0) in
           ap host_numbers after
           ∙ ap (λ (n : ℕ). numbers_from (n / number_bytes) (stored ++ drop (number_bytes * width) bytes)) size
           ∙ stored_first rest (length bytes / number_bytes) (head_and_rows f) (drop (number_bytes * width) bytes)
-          (omega (arith, written-length f, count)) (all_narrow f small few)
+          (omega (arith, written_length f, count)) (all_narrow f small few)
           ∙ ap (λ (l : List ℕ). head_and_rows f ++ l) (later_numbers width rest (length bytes / number_bytes) bytes count)
           ∙ sym (after_accepted _ f (host_numbers bytes) (read_verdict s image place (host_numbers bytes) (sym host_is_read ∙ e)))

@@ -75,7 +75,7 @@ module _ (f : File) where
   unfolding image_checksum_bad run_misplaced
   none_broken e =
       record {
-        each-run = λ i low high. record {
+        each_run = λ i low high. record {
           sum_right = equal_told _ _ (none_entry wrong_sum (image_numbers f) (false_at clauses e 0) (listed i low high));
           owns_some = ltb-false _ 1 (none_entry owns_none (image_numbers f) (false_at clauses e 1) (listed i low high));
           starts = equal_told _ _ (none_entry (run_misplaced f) (image_numbers f) (false_at clauses e 3) (listed i low high));
@@ -86,7 +86,7 @@ module _ (f : File) where
   all_kept : AllOwnRuns f → any_true clauses ≡ false
   unfolding image_checksum_bad run_misplaced any_true
   all_kept r =
-      let run : (i : ℕ) → Mem i (image_numbers f) → OwnsRun f i = λ i m. let b = bounds i m in r.each-run i b.0 b.1 in
+      let run : (i : ℕ) → Mem i (image_numbers f) → OwnsRun f i = λ i m. let b = bounds i m in r.each_run i b.0 b.1 in
       or_both _ _ (entry_none wrong_sum (image_numbers f) (λ i m. equal_tells _ _ (run i m).sum_right))
       (or_both _ _ (entry_none owns_none (image_numbers f) (λ i m. le-ltb _ 1 (run i m).owns_some))
       (or_both _ _ (equal_tells _ _ r.add_up)

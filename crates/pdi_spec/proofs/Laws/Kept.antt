@@ -61,10 +61,10 @@ unfolding not_from
 from_to low high n e =
     (ltb-false n low (or_left (ltb n low) (ltb high n) e), ltb-false high n (or_right (ltb n low) (ltb high n) e))
 
-pub counts-stated : (f : File) → Kept rule6 f
+pub counts_stated : (f : File) → Kept rule6 f
     → (1 ≤ (table f).images) × ((table f).images ≤ most_images) × (1 ≤ partitions f) × (partitions f ≤ most_partitions)
 unfolding table_fields_bad partitions
-counts-stated f k =
+counts_stated f k =
     let e = kept_once 6 (of_table table_fields_bad) f k in
     let images = from_to 1 most_images (table f).images (false_at _ e 0) in
     let chain = from_to 1 most_partitions (partitions f) (false_at _ e 1) in
@@ -101,14 +101,14 @@ module _ (f : File) (p : ℕ) (low : 1 ≤ p) (high : p ≤ partitions f) where
         ltb-false _ _ (false_at _ e 4),
       )
 
-  pub span-stated : Kept rule15 f → 4 * (header f p).data_offset + 4 * (header f p).total ≤ length f.bytes
+  pub span_stated : Kept rule15 f → 4 * (header f p).data_offset + 4 * (header f p).total ≤ length f.bytes
   unfolding Inside end_of span
-  span-stated k = span_inside f p (kept_each 15 (with_header span_outside) f k p (partition_mem f p low high))
+  span_stated k = span_inside f p (kept_each 15 (with_header span_outside) f k p (partition_mem f p low high))
 
-  pub load-stated : Kept rule16 f → loads f p ≡ true
+  pub load_stated : Kept rule16 f → loads f p ≡ true
       → load_address_of (header f p) + 4 * (header f p).unencrypted ≤ 0x1_0000_0000_0000_0000
   unfolding past end_of load_range address_space
-  load-stated k l =
+  load_stated k l =
       ltb-false address_space _ (load_in_space f p l (kept_each 16 (of_header load_address_bad) f k p (partition_mem f p low high)))
 
   pub hash_entry_stated : Kept rule17 f

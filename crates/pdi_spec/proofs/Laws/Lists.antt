@@ -48,12 +48,12 @@ module _ {A B : Type 0} (f : A → List B) where
       apart y here later = ∥∥₁_elim (mem_flat_map xs later) ⊥_prop (λ r. h r.0 r.1 y here r.2)
 
 -- lists of one length, joined
-pub flat_map-length : {A B : Type 0} (width : ℕ) (f : A → List B) → ((x : A) → length (f x) ≡ width) → (xs : List A)
+pub flat_map_length : {A B : Type 0} (width : ℕ) (f : A → List B) → ((x : A) → length (f x) ≡ width) → (xs : List A)
     → length (flat_map f xs) ≡ width * length xs
 unfolding flat_map
-flat_map-length width f h [] = sym (mul-zero width)
-flat_map-length width f h (x ∷ xs) =
-    length-append (f x) (flat_map f xs) ∙ omega (arith, h x, flat_map-length width f h xs, mul-suc width (length xs))
+flat_map_length width f h [] = sym (mul-zero width)
+flat_map_length width f h (x ∷ xs) =
+    length-append (f x) (flat_map f xs) ∙ omega (arith, h x, flat_map_length width f h xs, mul-suc width (length xs))
 
 -- what holds of the first i entries, and of one that is stored next, holds of the first i + 1
 pub stored_more : (P : ℕ → ℕ → Type 0) (l : List ℕ) (i x : ℕ) → i < length l → ((k : ℕ) → k < i → P k (get_or l k 0)) → P i x
@@ -64,9 +64,9 @@ stored_more P l i x room before here =
     (subst (P i) (sym (get_or-set_same l i x 0 room)) here)
 
 -- what is stored right behind a run is stored with it
-pub sets-append : (l xs ys : List ℕ) (i k : ℕ) → k ≡ i + length xs → sets (sets l i xs) k ys ≡ sets l i (xs ++ ys)
-sets-append l [] ys i k e = let z : k ≡ i = omega arith in ap (λ (j : ℕ). sets l j ys) z
-sets-append l (x ∷ xs) ys i k e = sets-append (set l i x) xs ys (suc i) k (omega arith)
+pub sets_append : (l xs ys : List ℕ) (i k : ℕ) → k ≡ i + length xs → sets (sets l i xs) k ys ≡ sets l i (xs ++ ys)
+sets_append l [] ys i k e = let z : k ≡ i = omega arith in ap (λ (j : ℕ). sets l j ys) z
+sets_append l (x ∷ xs) ys i k e = sets_append (set l i x) xs ys (suc i) k (omega arith)
 
 -- one number more, at the end
 pub numbers_more : (a n : ℕ) → numbers a (suc n) ≡ numbers a n ++ ((a + n) ∷ [])
@@ -85,10 +85,10 @@ sum_more g a n = rw (add-one n) (go a n)
     go a zero = omega (arith, ap g {x = a + 0} {y = a} (omega arith))
     go a (suc n) = omega (arith, go (suc a) n, ap g {x = suc a + n} {y = a + suc n} (omega arith))
 
-pub numbers-length : (a n : ℕ) → length (numbers a n) ≡ n
+pub numbers_length : (a n : ℕ) → length (numbers a n) ≡ n
 unfolding numbers
-numbers-length a zero = refl
-numbers-length a (suc n) = ap suc (numbers-length (suc a) n)
+numbers_length a zero = refl
+numbers_length a (suc n) = ap suc (numbers_length (suc a) n)
 
 -- lists joined, one for each entry, and then one entry more
 pub flat_map_more : {A B : Type 0} (f : A → List B) (xs : List A) (x : A) → flat_map f (xs ++ (x ∷ [])) ≡ flat_map f xs ++ f x
@@ -96,8 +96,8 @@ unfolding flat_map
 flat_map_more f [] x = append-nil (f x)
 flat_map_more f (y ∷ ys) x = ap (λ (l : List _). f y ++ l) (flat_map_more f ys x) ∙ sym (append_assoc (f y) (flat_map f ys) (f x))
 
-pub flat_map-numbers : {B : Type 0} (f : ℕ → List B) (a n : ℕ) → flat_map f (numbers a (n + 1)) ≡ flat_map f (numbers a n) ++ f (a + n)
-flat_map-numbers f a n = rw add-one (ap (flat_map f) (numbers_more a n) ∙ flat_map_more f (numbers a n) (a + n))
+pub flat_map_numbers : {B : Type 0} (f : ℕ → List B) (a n : ℕ) → flat_map f (numbers a (n + 1)) ≡ flat_map f (numbers a n) ++ f (a + n)
+flat_map_numbers f a n = rw add-one (ap (flat_map f) (numbers_more a n) ∙ flat_map_more f (numbers a n) (a + n))
 
 -- ---- what holds of every entry of a list, written out entry by entry
 

@@ -131,7 +131,7 @@ module _ (s : Stated) where
 
   -- its partitions have a load address
   fed : {feeds : List Feed} → Whole s feeds → (d : Feed) → Mem d feeds → Mem d.partition (loadable s)
-  fed w d l = (Perm.mem_iff w.each-once).0 (mem-map_of_mem _ l)
+  fed w d l = (Perm.mem_iff w.each_once).0 (mem-map_of_mem _ l)
 
   -- its targets are apart: no two of the loadable partitions' ranges meet, and the list is those partitions in some order
   whole_apart : ((e p : ℕ) → Mem e (loadable s) → Mem p (loadable s) → e < p → meet (s.load_range p) (s.load_range e) ≡ false)
@@ -139,7 +139,7 @@ module _ (s : Stated) where
   unfolding target
   whole_apart clear w =
       Pairwise.of_map (λ (d : Feed). d.partition) (λ d e h. h)
-      (Perm.pairwise (λ p q. Bool-set _ _) turned (Perm.symm w.each-once)
+      (Perm.pairwise (λ p q. Bool-set _ _) turned (Perm.symm w.each_once)
       (Pairwise.imp_of_mem (λ e p k l h. turned p e (clear e p k l h)) (loadable_ascending s)))
     where
       turned : (p q : ℕ) → meet (s.load_range p) (s.load_range q) ≡ false → meet (s.load_range q) (s.load_range p) ≡ false
@@ -157,7 +157,7 @@ loads_whole s clear low m feeds w =
       yielded = λ d l i h. stored s m p d l _ (reached (target s d) i h) ∙ ap (λ n. get_or d.bytes n 0) (omega arith);
       untouched = λ address h. kept s m feeds address (λ d l. h d.partition (fed s w d l));
       any_order = λ others q. order_free s m p q;
-      once-each = written_once s p;
+      once_each = written_once s p;
       inside = λ address l.
           ∥∥₁_elim (mem_flat_map _ feeds l) le_prop (λ r. below (target s r.0) (low _ (fed s w r.0 r.1)) r.2);
     }
@@ -181,6 +181,6 @@ whole_exists s chosen h =
     let same : map (λ (d : Feed). d.partition) (map feed (loadable s)) ≡ loadable s =
     map-map (λ (d : Feed). d.partition) feed (loadable s) ∙ map-id (loadable s) in
     record {
-      each-once = rw same (Perm.refl (loadable s));
+      each_once = rw same (Perm.refl (loadable s));
       sized = λ d m. ∥∥₁_elim (exists_of_mem-map {f = feed} {l = loadable s} m) (ℕ_set _ _) (λ t. rw (← t.2) (h t.0));
     }

@@ -93,10 +93,10 @@ module _ {own : List Rule} (s : Supported own) (image : List ℕ) (place : ℕ) 
           (either (within run p))
 
       -- as many as its count says
-      pub owns-count : count_of (λ (p : ℕ). eqb (owner_by own image place p) i) (partition_numbers (asked image place))
+      pub owns_count : count_of (λ (p : ℕ). eqb (owner_by own image place p) i) (partition_numbers (asked image place))
           ≡ (image_header (asked image place) i).partitions
       unfolding partition_numbers run_start end_of
-      owns-count =
+      owns_count =
           count_same owns (within run) 1 (partitions f) (λ p l h. owned_within p)
           ∙ range_count run 1 (partitions f) (omega arith) (omega (arith, ends, ends_in_chain))
 
@@ -106,7 +106,7 @@ module _ {own : List Rule} (s : Supported own) (image : List ℕ) (place : ℕ) 
           × ((header (asked image place) p).at ≡ 4 * (image_header (asked image place) i).first_header_offset)
       unfolding partition_numbers run_start header header_from
       owns_first =
-          let own-run = runs.each-run i low high in
+          let own-run = runs.each_run i low high in
           let some = own-run.owns_some in
           let first = run_start f i in
           let here = bounds_within run first (omega arith) (omega (arith, some)) in

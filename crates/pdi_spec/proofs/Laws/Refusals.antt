@@ -10,7 +10,7 @@ use Rattle.std.proofs.Math.Logic.{∥∥₁_elim}
 use Rattle.std.proofs.Math.Path.{refl, sym, ap}
 use borrow.Author.Tests.{ltb-false, le-ltb}
 use Rattle.pdi_spec.specs.{Limits.most_partitions, Limits.answer_unit, Lists.numbers, Lists.first_of, File.File, File.partitions, File.partition_numbers, Verdict.Rule, Verdict.once, Verdict.each, Verdict.each_and_table, Verdict.Outcome, Verdict.accepted, Verdict.refused, Verdict.verdict, Verdict.Kept, Rules.buffer_too_short, RuleList.rule1, RuleList.rule2, RuleList.rule6, RuleList.rule9, RuleList.table_rules, RuleList.without_buffer, RuleList.with_buffer, Answers.answer, Supported.WellTried, Supported.Supported}
-use Rattle.pdi_spec.proofs.Laws.{Tests.mem_numbers, Tests.numbers_ascending, Lists.Every, Lists.every_mem, Kept.kept_once, Kept.by_number, Kept.counts-stated, Verdict.and_then, Verdict.verdict-append, Verdict.verdict_after, Verdict.verdict_kept, Verdict.accepted_kept, Verdict.refusal_rule, Verdict.no_such_number, Verdict.refused_p}
+use Rattle.pdi_spec.proofs.Laws.{Tests.mem_numbers, Tests.numbers_ascending, Lists.Every, Lists.every_mem, Kept.kept_once, Kept.by_number, Kept.counts_stated, Verdict.and_then, Verdict.verdict_append, Verdict.verdict_after, Verdict.verdict_kept, Verdict.accepted_kept, Verdict.refusal_rule, Verdict.no_such_number, Verdict.refused_p}
 
 -- ---- the answer
 
@@ -109,9 +109,9 @@ module _ (least have : ℕ) (own : List Rule) (f : File) where
 -- ---- a question whose own rules are as Supported says
 
 -- rule 6 is one of rules 3 to 9
-pub table-counts : Mem rule6 table_rules
+pub table_counts : Mem rule6 table_rules
 unfolding table_rules first_of once
-table-counts = by_number 6 table_rules refl
+table_counts = by_number 6 table_rules refl
 
 -- and so is rule 9
 pub table_parts : Mem rule9 table_rules
@@ -123,7 +123,7 @@ module _ {own : List Rule} (s : Supported own) where
   pub few_partitions : (f : File) → verdict (without_buffer own) f ≡ accepted → partitions f ≤ most_partitions
   unfolding without_buffer
   few_partitions f e =
-      (counts-stated f (accepted_kept _ f e (mem-cons_of_mem rule1 (rw s.table_first (mem-append_left s.later table-counts))))).3
+      (counts_stated f (accepted_kept _ f e (mem-cons_of_mem rule1 (rw s.table_first (mem-append_left s.later table_counts))))).3
 
   module _ (least have : ℕ) where
     -- what holds of rules 1 and 2 and of the question's own rules holds of all of them
@@ -161,13 +161,13 @@ module _ {own : List Rule} (s : Supported own) where
         first = with_buffer least have table_rules
 
         split : verdict (with_buffer least have own) f ≡ and_then (verdict first f) (verdict s.later f)
-        split = ap (λ (l : List Rule). verdict (with_buffer least have l) f) s.table_first ∙ verdict-append first s.later f
+        split = ap (λ (l : List Rule). verdict (with_buffer least have l) f) s.table_first ∙ verdict_append first s.later f
 
         go : (o : Outcome) → verdict first f ≡ o → p ≤ most_partitions
         go accepted q =
             let t = refusal_rule (with_buffer least have own) f k p e in
-            let six = mem-cons_of_mem rule1 (mem-cons_of_mem (rule2 least have) table-counts) in
-            let few = (counts-stated f (accepted_kept first f q six)).3 in
+            let six = mem-cons_of_mem rule1 (mem-cons_of_mem (rule2 least have) table_counts) in
+            let few = (counts_stated f (accepted_kept first f q six)).3 in
             omega (arith, few, (well_tried t.0 t.1).in_chain f p t.3)
         go (refused l x) q =
             let same : refused l x ≡ refused k p = sym (split ∙ ap (λ (o : Outcome). and_then o (verdict s.later f)) q) ∙ e in

@@ -9,7 +9,7 @@ use Rattle.std.proofs.Math.Path.{sym, ap}
 use Rattle.std.proofs.Math.ListN.{length, take, drop, get_or, get_or-append}
 use Rattle.std.proofs.Math.Seq.{drop-append-add, take_at}
 use Rattle.pdi_spec.specs.{Limits.head_width, Limits.row_width, Lists.numbers, File.File, File.table, File.partitions, File.partition_numbers, Attributes.has_load_address, Ranges.loads, Ranges.load_range, Verdict.Rule, Verdict.Outcome, Verdict.accepted, Verdict.refused, Verdict.verdict, Answers.if_accepted, Answers.row_numbers, Answers.row_of, Answers.billed, Answers.head, Answers.head_and_rows, Answers.written, Answers.rows_after, Stated.row_number, Stated.by_rows}
-use Rattle.pdi_spec.proofs.Laws.{Lists.flat_map-length, Lists.numbers-length, Stated.AsHeaders}
+use Rattle.pdi_spec.proofs.Laws.{Lists.flat_map_length, Lists.numbers_length, Stated.AsHeaders}
 
 -- ---- blocks of a row's width, one after another
 
@@ -40,13 +40,13 @@ module _ (g : ℕ → List ℕ) (wide : (p : ℕ) → length (g p) ≡ row_width
 row : File → ℕ → List ℕ
 row f p = row_numbers (row_of f p)
 
-row-length : (f : File) (p : ℕ) → length (row f p) ≡ row_width
+row_length : (f : File) (p : ℕ) → length (row f p) ≡ row_width
 unfolding row row_numbers
-row-length f p = refl
+row_length f p = refl
 
-pub written-length : (f : File) → length (head_and_rows f) ≡ head_width + row_width * partitions f
+pub written_length : (f : File) → length (head_and_rows f) ≡ head_width + row_width * partitions f
 unfolding head_and_rows head partition_numbers row
-written-length f = omega (arith, flat_map-length row_width (row f) (row-length f) (numbers 1 (partitions f)), numbers-length 1 (partitions f))
+written_length f = omega (arith, flat_map_length row_width (row f) (row_length f) (numbers 1 (partitions f)), numbers_length 1 (partitions f))
 
 -- an acceptance writes the head and the rows, and leaves the rest
 pub after_accepted : (rs : List Rule) (f : File) (rows : List ℕ) → verdict rs f ≡ accepted
@@ -54,7 +54,7 @@ pub after_accepted : (rs : List Rule) (f : File) (rows : List ℕ) → verdict r
 unfolding rows_after written if_accepted
 after_accepted rs f rows e =
     ap (λ (o : Outcome). if_accepted o (head_and_rows f) [] ++ drop (length (if_accepted o (head_and_rows f) [])) rows) e
-    ∙ ap (λ (n : ℕ). head_and_rows f ++ drop n rows) (written-length f)
+    ∙ ap (λ (n : ℕ). head_and_rows f ++ drop n rows) (written_length f)
 
 -- a refusal writes nothing
 pub after_refused : (rs : List Rule) (f : File) (rows : List ℕ) (k p : ℕ) → verdict rs f ≡ refused k p → rows_after rs f rows ≡ rows
@@ -63,28 +63,28 @@ after_refused rs f rows k p e =
     ap (λ (o : Outcome). if_accepted o (head_and_rows f) [] ++ drop (length (if_accepted o (head_and_rows f) [])) rows) e
 
 module _ (rs : List Rule) (f : File) (rows : List ℕ) (e : verdict rs f ≡ accepted) where
-  pub head-stated : take head_width (rows_after rs f rows) ≡ (table f).kind ∷ (table f).images ∷ partitions f ∷ billed f ∷ []
+  pub head_stated : take head_width (rows_after rs f rows) ≡ (table f).kind ∷ (table f).images ∷ partitions f ∷ billed f ∷ []
   unfolding head_and_rows head
-  head-stated = ap (take head_width) (after_accepted rs f rows e)
+  head_stated = ap (take head_width) (after_accepted rs f rows e)
 
   -- past the rows the buffer is as found
   pub rest_after : drop (head_width + row_width * partitions f) (rows_after rs f rows) ≡ drop (head_width + row_width * partitions f) rows
   rest_after =
       ap (drop (head_width + row_width * partitions f)) (after_accepted rs f rows e)
-      ∙ drop_at (head_and_rows f) (drop (head_width + row_width * partitions f) rows) (head_width + row_width * partitions f) (written-length f)
+      ∙ drop_at (head_and_rows f) (drop (head_width + row_width * partitions f) rows) (head_width + row_width * partitions f) (written_length f)
 
   pub length_after : head_width + row_width * partitions f ≤ length rows → length (rows_after rs f rows) ≡ length rows
   length_after h =
       ap length (after_accepted rs f rows e)
       ∙ length-append (head_and_rows f) (drop (head_width + row_width * partitions f) rows)
-      ∙ omega (arith, written-length f, length-drop (head_width + row_width * partitions f) rows)
+      ∙ omega (arith, written_length f, length-drop (head_width + row_width * partitions f) rows)
 
   -- what stands from row j + 1 on: the row, and what follows it
   row_from : (j : ℕ) → j < partitions f → (tail : List ℕ) × (drop (head_width + row_width * j) (rows_after rs f rows) ≡ row f (suc j) ++ tail)
   unfolding head_and_rows head partition_numbers row
   row_from j h =
       let rest = drop (head_width + row_width * partitions f) rows in
-      let b = block_at (row f) (row-length f) 1 (partitions f) j rest h in
+      let b = block_at (row f) (row_length f) 1 (partitions f) j rest h in
       let four : head_width + row_width * j ≡ suc (suc (suc (suc (row_width * j)))) = omega arith in
       let one : 1 + j ≡ suc j = omega arith in (
         b.0,
@@ -102,7 +102,7 @@ module _ (rs : List Rule) (f : File) (rows : List ℕ) (e : verdict rs f ≡ acc
       let t = row_from j h in
       ap (λ (k : ℕ). take row_width (drop (head_width + row_width * k) (rows_after rs f rows))) (sub-one (suc j))
       ∙ ap (take row_width) t.1
-      ∙ take_at (row f (suc j)) t.0 row_width (row-length f (suc j))
+      ∙ take_at (row f (suc j)) t.0 row_width (row_length f (suc j))
 
   -- one number of a row
   row_number_lem : (p k : ℕ) → 1 ≤ p → p ≤ partitions f → k < row_width → row_number (rows_after rs f rows) p k ≡ get_or (row f p) k 0
@@ -112,7 +112,7 @@ module _ (rs : List Rule) (f : File) (rows : List ℕ) (e : verdict rs f ≡ acc
       let t = row_from j h in
       sym (get_or-drop (head_width + row_width * j) (rows_after rs f rows) k 0)
       ∙ ap (λ (xs : List ℕ). get_or xs k 0) t.1
-      ∙ get_or-append (row f (suc j)) t.0 0 k (omega (arith, row-length f (suc j)))
+      ∙ get_or-append (row f (suc j)) t.0 0 k (omega (arith, row_length f (suc j)))
 
   -- the rows state what the headers state
   pub rows_state : AsHeaders f (by_rows (rows_after rs f rows))

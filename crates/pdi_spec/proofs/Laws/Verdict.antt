@@ -10,10 +10,10 @@ use Rattle.pdi_spec.specs.{Lists.first_of, File.File, Verdict.Rule, Verdict.Outc
 use Rattle.pdi_spec.proofs.Laws.{Firsts.mem_split, Firsts.first_none, Firsts.none_first, Firsts.first_some, Firsts.split_first}
 
 -- what the first rule's first broken p makes of the list's verdict
-verdict-step : (r : Rule) (rs : List Rule) (f : File) (o : Option ℕ) → first_of (r.broken f) (r.tried f) ≡ o
+verdict_step : (r : Rule) (rs : List Rule) (f : File) (o : Option ℕ) → first_of (r.broken f) (r.tried f) ≡ o
     → verdict (r ∷ rs) f ≡ Option-elim o (verdict rs f) (refused r.number)
 unfolding verdict
-verdict-step r rs f o e = ap (λ (q : Option ℕ). Option-elim q (verdict rs f) (refused r.number)) e
+verdict_step r rs f o e = ap (λ (q : Option ℕ). Option-elim q (verdict rs f) (refused r.number)) e
 
 pub accepted_not_refused : {k p : ℕ} → accepted ≡ refused k p → ⊥
 accepted_not_refused e = let z : ◌≡◌ {A = ℕ} 0 1 = cc in omega arith
@@ -22,12 +22,12 @@ accepted_not_refused e = let z : ◌≡◌ {A = ℕ} 0 1 = cc in omega arith
 pub verdict_broken : (r : Rule) (rs : List Rule) (f : File) (p : ℕ) → first_of (r.broken f) (r.tried f) ≡ some p
     → verdict (r ∷ rs) f ≡ refused r.number p
 unfolding Option-elim
-verdict_broken r rs f p e = verdict-step r rs f (some p) e
+verdict_broken r rs f p e = verdict_step r rs f (some p) e
 
 -- a kept rule leaves the verdict to the rest of the list
 pub verdict_kept : (r : Rule) (rs : List Rule) (f : File) → Kept r f → verdict (r ∷ rs) f ≡ verdict rs f
 unfolding Kept Option-elim
-verdict_kept r rs f k = verdict-step r rs f none (none_first (r.broken f) (r.tried f) k)
+verdict_kept r rs f k = verdict_step r rs f none (none_first (r.broken f) (r.tried f) k)
 
 -- and so do several
 pub verdict_skip : (before rs : List Rule) (f : File) → Keeps before f → verdict (before ++ rs) f ≡ verdict rs f
@@ -47,10 +47,10 @@ and_then accepted o = o
 and_then (refused k p) o = refused k p
 
 -- a list in two parts: the second is tried only where the first accepts
-pub verdict-append : (rs ss : List Rule) (f : File) → verdict (rs ++ ss) f ≡ and_then (verdict rs f) (verdict ss f)
+pub verdict_append : (rs ss : List Rule) (f : File) → verdict (rs ++ ss) f ≡ and_then (verdict rs f) (verdict ss f)
 unfolding verdict and_then Option-elim
-verdict-append [] ss f = refl
-verdict-append (r ∷ rs) ss f = go (verdict-append rs ss f) (first_of (r.broken f) (r.tried f))
+verdict_append [] ss f = refl
+verdict_append (r ∷ rs) ss f = go (verdict_append rs ss f) (first_of (r.broken f) (r.tried f))
   where
     go : verdict (rs ++ ss) f ≡ and_then (verdict rs f) (verdict ss f)
         → (o : Option ℕ)
@@ -71,8 +71,8 @@ accepted_keeps (r ∷ rs) f e = go (accepted_keeps rs f) (first_of (r.broken f) 
   where
     go : (verdict rs f ≡ accepted → Keeps rs f) → (o : Option ℕ) → first_of (r.broken f) (r.tried f) ≡ o → Keeps (r ∷ rs) f
     go ih none q =
-        keeps_cons r rs f (first_none (r.broken f) (r.tried f) q) (ih (sym (verdict-step r rs f none q) ∙ e))
-    go ih (some p) q = absurd (accepted_not_refused (sym e ∙ verdict-step r rs f (some p) q))
+        keeps_cons r rs f (first_none (r.broken f) (r.tried f) q) (ih (sym (verdict_step r rs f none q) ∙ e))
+    go ih (some p) q = absurd (accepted_not_refused (sym e ∙ verdict_step r rs f (some p) q))
 
 -- so a rule that stands in it is
 pub accepted_kept : (rs : List Rule) (f : File) → verdict rs f ≡ accepted → {r : Rule} → Mem r rs → Kept r f
@@ -95,7 +95,7 @@ refused_first (r ∷ rs) f k p e = go (refused_first rs f k p) (first_of (r.brok
     go : (verdict rs f ≡ refused k p → FirstRefusal rs f k p) → (o : Option ℕ) → first_of (r.broken f) (r.tried f) ≡ o
         → FirstRefusal (r ∷ rs) f k p
     go ih none q =
-        let t = ih (sym (verdict-step r rs f none q) ∙ e) in
+        let t = ih (sym (verdict_step r rs f none q) ∙ e) in
         record {
           earlier = r ∷ t.earlier;
           rule = t.rule;
@@ -106,7 +106,7 @@ refused_first (r ∷ rs) f k p e = go (refused_first rs f k p) (first_of (r.brok
           first_broken_lem = t.first_broken_lem;
         }
     go ih (some x) q =
-        let same : refused r.number x ≡ refused k p = sym (verdict-step r rs f (some x) q) ∙ e in
+        let same : refused r.number x ≡ refused k p = sym (verdict_step r rs f (some x) q) ∙ e in
         let same_number : r.number ≡ k = cc in
         let same_p : x ≡ p = cc in
         record {

@@ -7,13 +7,13 @@ use mathlib.Core.Path.{◌≡◌, sym}
 use lib.ListN.{length, get_or, replicate}
 use lib.Seq.{length-take-le}
 use Rattle.listing.specs.Printed.{print_answer, longest_printed}
-use Rattle.listing.specs.Laws.Printed.{answer-within}
+use Rattle.listing.specs.Laws.Printed.{answer_within}
 use Rattle.program.proofs.answer.Statement.{statement}
 use Rattle.program.proofs.answer.Tie as tie
 
 within : (input out last : List ℕ) → ((i : ℕ) → get_or input i 0 < 256) → {n : ℕ} → n ≡ print_answer input out → length last ≡ length out
     → n ≤ length last
-within input out last bytes en el = omega (arith, answer-within input out bytes)
+within input out last bytes en el = omega (arith, answer_within input out bytes)
 
 fits : (c : tie.After-out2) → c.before.print.result ≤ length c.before.print.new.1.0
 fits c =

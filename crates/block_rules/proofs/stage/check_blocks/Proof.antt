@@ -19,10 +19,10 @@ invariant-loop image table offsets entries₀ n i₀ entries i = (i ≤ n) × Bl
 abbrev decreases-loop : tie.decreases-loop
 decreases-loop image table offsets entries₀ n i₀ entries i = n - i
 
-table-block : (s : tie.Start invariant-loop decreases-loop)
+table_block_lem : (s : tie.Start invariant-loop decreases-loop)
     → block_of s.args.table.block ≡ hash_block (file_of s.args.image.now s.args.table) 0
 unfolding hash_block
-table-block s = ap (λ (t : Table). t.block) s.requires.0.own
+table_block_lem s = ap (λ (t : Table). t.block) s.requires.0.own
 
 returns : tie.Need-returns invariant-loop decreases-loop
 returns c =
@@ -30,7 +30,7 @@ returns c =
     record {
       told =
           table_broken _
-          (block_refused _ 0 (table-block s) (sym c.before.before.check-block.ensures ∙ c.enum-told2.given.1));
+          (block_refused _ 0 (table_block_lem s) (sym c.before.before.check-block.ensures ∙ c.enum-told2.given.1));
       entries_are = λ e. let z : ◌≡◌ {A = ℕ} 0 1 = cc in absurd (omega arith);
     }
 
@@ -38,7 +38,7 @@ loop-holds : tie.Need-loop-init invariant-loop decreases-loop
 loop-holds c =
     let s = c.before.before.before.before.before in
     let told = sym c.before.before.before.check-block.ensures ∙ c.before.enum_told.given.1 in
-    (omega arith, starts _ _ (block_checked _ 0 (table-block s) told).0 s.requires.1)
+    (omega arith, starts _ _ (block_checked _ 0 (table_block_lem s) told).0 s.requires.1)
 
 header-at-requires : tie.Need-header-at-requires invariant-loop decreases-loop
 header-at-requires c κs = (c.before.before.before.before.before.before.before.requires.0, omega arith)

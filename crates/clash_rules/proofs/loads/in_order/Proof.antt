@@ -8,7 +8,7 @@ use mathlib.Core.Logic.{⊎_elim}
 use mathlib.Core.Path.{◌≡◌, sym, ◌∙◌, ap}
 use Rattle.chain_rules.specs.Chain.{file_of}
 use Rattle.ranges.specs.Range.{range_of, ends_before}
-use Rattle.pairs.proofs.Following.{ends-before}
+use Rattle.pairs.proofs.Following.{ends_before_lem}
 use Rattle.clash_rules.proofs.Meetings.{Ordered, ordered-none, ordered_empty, ordered_next, none_broken}
 use Rattle.chain_rules.proofs.Counts.{counted}
 use Rattle.clash_rules.proofs.loads.in_order.Statement.{statement}
@@ -31,7 +31,7 @@ loop-again c =
       ⊎_elim
           (λ w.
           let after = ap (ends_before (range_of l.last)) (sym r) ∙ sym w.1.ensures ∙ not-false _ w.2.left in
-          rw (ap range_of w.3 ∙ r) (ordered_next _ l.i (range_of l.last) l.invariant.1 (ends-before _ _ after)))
+          rw (ap range_of w.3 ∙ r) (ordered_next _ l.i (range_of l.last) l.invariant.1 (ends_before_lem _ _ after)))
           (λ w. rw w.1 (ordered_empty _ l.i (range_of l.last) l.invariant.1 (rw (← r) w.0.left)))
           c.if1.branch,
     )

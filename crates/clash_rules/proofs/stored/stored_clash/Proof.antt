@@ -16,11 +16,11 @@ use Rattle.clash_rules.proofs.stored.stored_clash.Statement.{statement}
 use Rattle.clash_rules.proofs.stored.stored_clash.Tie as tie
 
 -- rule 18's tests: of ranges of headers and spans, and of hash blocks
-stored-tests : (f : File)
+stored_tests : (f : File)
     → stored_ranges_clash f
     ≡ (any_pair (clashes false) (header_ranges f ++ parts_of 1 f) || block_clash (hash_blocks f) (header_ranges f ++ bodies f))
 unfolding stored_ranges_clash clashes block_clash crossing any_true spans span parts_of part_of
-stored-tests f =
+stored_tests f =
     ap (λ (test : Range → Range → Bool). any_pair test (header_ranges f ++ spans f)
     || (crossing (hash_blocks f) (header_ranges f ++ bodies f) || (any_pair (clashes true) (hash_blocks f) || false)))
     (sym (λ i a b. and-true (overlap a b) i))
@@ -48,7 +48,7 @@ spans_told c =
     ap (any_pair (clashes false)) (sym all.held) ∙ sym c.any-clash.ensures
 
 returns : tie.Need-returns
-returns c = rw (stored-tests _, spans_told c.before, c.if1.true) refl
+returns c = rw (stored_tests _, spans_told c.before, c.if1.true) refl
 
 blocks-clash-requires : tie.Need-blocks-clash-requires
 blocks-clash-requires c κs =
@@ -60,7 +60,7 @@ blocks-clash-requires c κs =
 returns-2 : tie.Need-returns-2
 returns-2 c =
     let left = c.before.before.before in
-    rw (stored-tests _, spans_told left.before, left.if1.false) c.blocks-clash.ensures
+    rw (stored_tests _, spans_told left.before, left.if1.false) c.blocks-clash.ensures
 
 pub stored-clash-spec : {M : Type 1} → statement M
 stored-clash-spec =

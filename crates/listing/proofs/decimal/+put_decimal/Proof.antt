@@ -6,7 +6,7 @@ use borrow.Fn.Kinds.{In}
 use borrow.Fn.PlainCycle.{Measures, is, falls, and}
 use lib.ListN.{length-set}
 use Rattle.listing.specs.Laws.Decimal.{decimal_some, length_more}
-use Rattle.listing.proofs.Stores.{one-digit, last_digit}
+use Rattle.listing.proofs.Stores.{one_digit, last_digit}
 use Rattle.listing.proofs.decimal.put_decimal.Reads as own
 use Rattle.listing.proofs.decimal.put_decimal.Kinds as kinds
 use Rattle.listing.proofs.decimal.+put_decimal.Lts-put_decimal as lts
@@ -48,7 +48,7 @@ returns : (t : ℕ) → lts.Need-returns (digit.Asked, digit.Learnt, asked t, ow
     (given t) own.Post
 returns t c =
     let a = c.before.before.before.args in
-    one-digit a.out.now a.at a.n c.before.if1.true c.digit-of.ensures
+    one_digit a.out.now a.at a.n c.before.if1.true c.digit-of.ensures
 
 put-decimal-requires : (t : ℕ) → lts.Need-put-decimal-requires (digit.Asked, digit.Learnt, asked t, own.Post)
     (given t) own.Post

@@ -8,7 +8,7 @@ use lib.ListN.{length, drop}
 use lib.Seq.{sets}
 use Rattle.listing.specs.Pieces.{left}
 use Rattle.listing.specs.Printed.{line}
-use Rattle.listing.specs.Laws.Lines.{left-line}
+use Rattle.listing.specs.Laws.Lines.{left_line}
 use Rattle.listing.proofs.Stores.{all_stored, number_fits, none_left, next_number}
 use Rattle.listing.proofs.lines.put_line.Statement.{statement}
 use Rattle.listing.proofs.lines.put_line.Tie as tie
@@ -24,7 +24,7 @@ decreases-loop out₀ at numbers end₀ i₀ out end i = length numbers - i
 loop-holds : tie.Need-loop-init invariant-loop decreases-loop
 loop-holds c =
     let a = c.before.before.args in
-    let all = left-line a.numbers.now c.before.before.requires.0 in
+    let all = left_line a.numbers.now c.before.before.requires.0 in
     (omega arith, refl, ap (λ (l : List ℕ). a.at + length l) all, ap (sets a.out.now a.at) all)
 
 put-number-requires : tie.Need-put-number-requires invariant-loop decreases-loop

@@ -9,7 +9,7 @@ use Rattle.pdi_spec.specs.Headers.{Header}
 use Rattle.pdi_spec.proofs.Laws.Calls.{nothing}
 use Rattle.chain_rules.specs.Chain.{file_of}
 use Rattle.chain_rules.proofs.Counts.{counted}
-use Rattle.rows.proofs.Totals.{totals, totals-none, totals_more, totals_all}
+use Rattle.rows.proofs.Totals.{totals, totals_none, totals_more, totals_all}
 use Rattle.rows.proofs.bill.billed.Statement.{statement}
 use Rattle.rows.proofs.bill.billed.Tie as tie
 
@@ -26,7 +26,7 @@ cast-n : tie.Need-overflow-cast-n invariant-loop decreases-loop
 cast-n c = search rules
 
 loop-holds : tie.Need-loop-init invariant-loop decreases-loop
-loop-holds c = (omega arith, sym (totals-none _), omega arith)
+loop-holds c = (omega arith, sym (totals_none _), omega arith)
 
 header-at-requires : tie.Need-header-at-requires invariant-loop decreases-loop
 header-at-requires c κs = (c.before.before.before.before.requires, omega arith)
