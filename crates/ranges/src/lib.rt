@@ -1,10 +1,12 @@
 // Ranges of numbers, as positions of the image or addresses. A range's end may be over 2^64, so no function adds start and size.
+#![tactic(auto)]
+
 ghost use Rattle.std.specs.Prelude.{◌≡◌};
 ghost use Rattle.pdi_spec.specs.Ranges.{address_space, overlap, past, same_range};
 ghost use Rattle.ranges.specs.Range.{ends_before, range_of};
 
 // `size` numbers from `start` on.
-#[derive(Drop)]
+#[derive(Clone, Copy)]
 pub struct Range {
     pub start: u64,
     pub size: u64,
