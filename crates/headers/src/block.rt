@@ -10,7 +10,7 @@ use crate::field;
 use ranges::Range;
 
 // Its size in bytes, its offset in words.
-#[derive(Drop)]
+#[derive(Clone, Copy)]
 pub struct Block {
     pub size: u32,
     pub offset: u32,

@@ -10,7 +10,7 @@ use ranges::Range;
 const XNLX: [u8; 4] = *b"XNLX";
 
 // Its fields that rule 8 names.
-#[derive(Drop)]
+#[derive(Clone, Copy)]
 pub struct BootHeader {
     pub width_detection: u32,
     pub identified: bool,

@@ -6,7 +6,7 @@ ghost use Rattle.headers.specs.Headers.{entry_from};
 use crate::field;
 
 // Where an entry lies, and its index.
-#[derive(Drop)]
+#[derive(Clone, Copy)]
 pub struct HashEntry {
     pub at: usize,
     pub index: u32,

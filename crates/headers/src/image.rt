@@ -6,7 +6,7 @@ ghost use Rattle.headers.specs.Headers.{image_header_of};
 use crate::field;
 
 // An image header, read at a byte offset.
-#[derive(Drop)]
+#[derive(Clone, Copy)]
 pub struct ImageHeader {
     pub at: usize,
     pub first_header_offset: u32,

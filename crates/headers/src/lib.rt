@@ -1,5 +1,7 @@
 // The table, an image header, a partition header, the boot header, a hash block and its entries: sizes, offsets, by-value readings and the
 // ranges that they name. What is read lies inside the image: a rule has said so before.
+#![tactic(auto)]
+
 mod block;
 mod boot;
 mod entry;

@@ -18,7 +18,7 @@ fn joined(low: u32, high: u32) -> u64
 }
 
 // A partition header, read at a byte offset.
-#[derive(Drop)]
+#[derive(Clone, Copy)]
 pub struct PartitionHeader {
     pub at: usize,
     pub encrypted: u32,

@@ -14,13 +14,13 @@ const FPDI: [u8; 4] = *b"FPDI";
 const PPDI: [u8; 4] = *b"PPDI";
 
 // The word of header sizes.
-#[derive(Drop)]
+#[derive(Clone, Copy)]
 pub struct HeaderSizes {
     pub word: u32,
 }
 
 // The table, read at its place.
-#[derive(Drop)]
+#[derive(Clone, Copy)]
 pub struct TableHeader {
     pub place: usize,
     pub version: u32,
