@@ -1,12 +1,14 @@
 // A partition's attribute word: the fields that a rule names, and what rule 12 asks of them. Tests are joined by `|`, which runs both
 // sides: with no branch, one fact is left to prove of a function, that its answer is the definition's.
+#![tactic(auto)]
+
 ghost use Rattle.std.specs.Prelude.{[], ◌∷◌, ◌≡◌};
 ghost use Rattle.pdi_spec.specs.Attributes.{checksum_type_of, cluster_of, cpu_of, dpa_of, has_load_address, lockstep_of, owner_of, reserved_of, tcm_flag_of, type_of};
 ghost use Rattle.pdi_spec.specs.Lists.{is_in};
 ghost use Rattle.pdi_spec.specs.Rules.{attribute_word_bad};
 
 // An attribute word.
-#[derive(Drop)]
+#[derive(Clone, Copy)]
 pub struct Attributes {
     pub word: u32,
 }
