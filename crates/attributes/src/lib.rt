@@ -3,7 +3,8 @@
 #![tactic(auto)]
 
 ghost use Rattle.std.specs.Prelude.{[], ◌∷◌, ◌≡◌};
-ghost use Rattle.pdi_spec.specs.Attributes.{checksum_type_of, cluster_of, cpu_of, dpa_of, has_load_address, lockstep_of, owner_of, reserved_of, tcm_flag_of, type_of};
+ghost use Rattle.pdi_spec.specs.Attributes.{checksum_type_of, cluster_of, cpu_of, dpa_of, has_load_address};
+ghost use Rattle.pdi_spec.specs.Attributes.{lockstep_of, owner_of, reserved_of, tcm_flag_of, type_of};
 ghost use Rattle.pdi_spec.specs.Lists.{is_in};
 ghost use Rattle.pdi_spec.specs.Rules.{attribute_word_bad};
 

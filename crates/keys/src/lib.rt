@@ -1,4 +1,6 @@
 // Key words: the document's table, a word's place in it, and the two classes that the rules ask for.
+#![tactic(auto)]
+
 ghost use Rattle.std.specs.Prelude.{◌≡◌};
 ghost use Rattle.pdi_spec.specs.Keys.{zero_common_or_user, zero_or_common};
 ghost use Rattle.keys.specs.Places.{all_keys, place_in};
