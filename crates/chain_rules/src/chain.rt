@@ -10,7 +10,7 @@ use headers::{MOST_PARTITIONS, PartitionHeader, TableHeader};
 use ranges::Range;
 
 // One header's place in the chain.
-#[derive(Drop)]
+#[derive(Clone, Copy)]
 pub enum Link {
     // The header is past the image, or the chain ends here too early or too late.
     Broken,
