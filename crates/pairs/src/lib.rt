@@ -1,4 +1,6 @@
 // Ranges in two arrays, of starts and of sizes: whether some two clash, of one list or of two.
+#![tactic(auto)]
+
 mod compare;
 mod order;
 
