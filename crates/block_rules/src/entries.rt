@@ -7,7 +7,7 @@ ghost use Rattle.block_rules.specs.Entries.{NextEntry, block_answer};
 use headers::{Block, HashEntry, MOST_PARTITIONS};
 
 // What rule 17 says of one block.
-#[derive(Drop)]
+#[derive(Clone, Copy)]
 pub enum BlockAnswer {
     // It is bad.
     Refused,
