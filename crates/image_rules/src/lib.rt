@@ -1,4 +1,6 @@
 // Rule 20, the image headers: the runs of the chain that images own, and the owner image of a partition.
+#![tactic(auto)]
+
 mod owners;
 mod runs;
 

@@ -13,7 +13,7 @@ use chain_rules::Answer;
 use headers::{ImageHeader, MOST_PARTITIONS, TableHeader};
 
 // One image's run of the chain.
-#[derive(Drop)]
+#[derive(Clone, Copy)]
 pub enum Run {
     // Its header breaks rule 20, or the images before it own the whole chain already.
     Broken,

@@ -1,4 +1,6 @@
 // The ranges that rules 18 and 19 compare, and the lists of them in two arrays, made from the table and the headers.
+#![tactic(auto)]
+
 ghost use Rattle.std.specs.Prelude.{◌+◌, ◌≤◌, ◌<◌, [], ◌∷◌, ◌++◌, ◌≡◌};
 ghost use Rattle.pdi_spec.specs.File.{header};
 ghost use Rattle.pdi_spec.specs.Ranges.{block_ranges, hash_blocks, header_ranges};

@@ -1,4 +1,6 @@
 // What is stated of an accepted image: the billed bytes, and the row buffer with its head and rows.
+#![tactic(auto)]
+
 mod bill;
 mod buffer;
 

@@ -1,0 +1,16 @@
+-- `range_lists::put_headers` meets its contract. Assumes nothing.
+use native.Mathlib.Omega.{arith}
+use Rattle.pairs.proofs.Arrays.{and_then}
+use Rattle.range_lists.proofs.Lists.{headers_joined}
+use Rattle.range_lists.proofs.put_headers.Goals as goal
+
+pub put_parts-requires : goal.put_parts-requires
+put_parts-requires c =
+    let first = c.put_first-first.ensures in
+    let chain = c.requires.chain in
+    record { chain = chain; room = first.0.room; inside = omega (arith, first.1, chain.few) }
+
+pub returns : goal.returns
+returns c =
+    let first = c.put_first-first.ensures in
+    record { filled = rw (headers_joined c.requires.chain) (and_then _ first.0 c.put_parts.ensures.filled); few = omega (arith, first.1, c.requires.chain.few) }
