@@ -1,5 +1,4 @@
 -- `range_lists::put` meets its contract. Assumes nothing.
-use borrow.Author.Rules.{rules}
 use mathlib.Core.Path.{refl}
 use Rattle.pairs.proofs.Arrays.{one_more}
 use Rattle.range_lists.proofs.put.Goals as goal

@@ -1,22 +1,17 @@
 -- `range_lists::put_blocks` meets its contract. The loop's invariant: the table's block, then those of the first i partitions.
 -- Assumes nothing.
-use Prim.Native.Nat.{ℕ, ◌+◌, ◌-◌, ◌≤◌}
 use native.Mathlib.Omega.{arith}
-use mathlib.Core.List.{List, ◌++◌, flat_map, append-nil}
+use mathlib.Core.List.{flat_map, append-nil}
 use mathlib.Core.Path.{◌≡◌, sym, ◌∙◌, ap}
-use Rattle.pdi_spec.specs.File.{File, hash_block, partitions}
 use Rattle.pdi_spec.specs.Headers.{Header}
 use Rattle.pdi_spec.specs.Lists.{numbers}
-use Rattle.pdi_spec.specs.Ranges.{Range, block_ranges}
+use Rattle.pdi_spec.specs.Ranges.{block_ranges}
 use Rattle.chain_rules.specs.Chain.{file_of}
 use Rattle.headers.specs.Headers.{block_of}
-use Rattle.pairs.specs.Lists.{Filled, ranges_in}
+use Rattle.pairs.specs.Lists.{ranges_in}
 use Rattle.range_lists.proofs.Lists.{own_block, blocks_joined, partition_more}
+use Rattle.range_lists.proofs.put_blocks.Invariants.{block}
 use Rattle.range_lists.proofs.put_blocks.Goals as goal
-
--- the range of a partition's block, where there is one
-abbrev block : File → ℕ → List Range
-block f p = block_ranges (hash_block f p)
 
 pub loop-i-init : goal.loop-i-init
 unfolding flat_map numbers ranges_in

@@ -1,18 +1,18 @@
 -- `range_lists::put_blocks` meets its contract. The loop's invariant: the table's block, then those of the first i partitions.
 -- Assumes nothing.
 use Prim.Native.Nat.{ℕ, ◌+◌, ◌-◌, ◌≤◌}
-use native.Mathlib.Omega.{arith}
-use mathlib.Core.List.{List, ◌++◌, flat_map, append-nil}
-use mathlib.Core.Path.{◌≡◌, sym, ◌∙◌, ap}
-use Rattle.pdi_spec.specs.File.{File, hash_block, partitions}
-use Rattle.pdi_spec.specs.Headers.{Header}
+use mathlib.Core.List.{List, ◌++◌, flat_map}
+use Rattle.pdi_spec.specs.File.{File, hash_block}
 use Rattle.pdi_spec.specs.Lists.{numbers}
 use Rattle.pdi_spec.specs.Ranges.{Range, block_ranges}
 use Rattle.chain_rules.specs.Chain.{file_of}
 use Rattle.headers.specs.Headers.{block_of}
-use Rattle.pairs.specs.Lists.{Filled, ranges_in}
-use Rattle.range_lists.proofs.Lists.{own_block, blocks_joined, partition_more}
+use Rattle.pairs.specs.Lists.{Filled}
 use Rattle.range_lists.proofs.put_blocks.Given as goal
+
+-- the range of a partition's block, where there is one
+abbrev pub block : File → ℕ → List Range
+block f p = block_ranges (hash_block f p)
 
 abbrev pub invariant-loop-i : goal.invariant-loop-i
 invariant-loop-i l =

@@ -8,9 +8,9 @@ pub put_parts-requires : goal.put_parts-requires
 put_parts-requires c =
     let first = c.put_first-first.ensures in
     let chain = c.requires.chain in
-    record { chain = chain; room = first.0.room; inside = omega (arith, first.1, chain.few) }
+    record { chain = chain; room = first.filled.room; inside = omega (arith, first.few, chain.few) }
 
 pub returns : goal.returns
 returns c =
     let first = c.put_first-first.ensures in
-    record { filled = rw (headers_joined c.requires.chain) (and_then _ first.0 c.put_parts.ensures.filled); few = omega (arith, first.1, c.requires.chain.few) }
+    record { filled = rw (headers_joined c.requires.chain) (and_then _ first.filled c.put_parts.ensures.filled); few = omega (arith, first.few, c.requires.chain.few) }

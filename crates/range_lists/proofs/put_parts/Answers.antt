@@ -1,22 +1,18 @@
 -- `range_lists::put_parts` meets its contract. The loop's invariant: after what was there lie the ranges of the first i partitions.
 -- Assumes nothing.
-use Prim.Native.Nat.{ℕ, ◌+◌, ◌-◌, ◌≤◌}
 use native.Mathlib.Omega.{arith}
-use mathlib.Core.List.{List, [], ◌∷◌, ◌++◌, flat_map, append-nil}
+use mathlib.Core.List.{[], ◌∷◌, flat_map, append-nil}
 use mathlib.Core.Path.{◌≡◌, sym, ap}
-use Rattle.pdi_spec.specs.File.{File, header, partition_numbers, partitions}
+use Rattle.pdi_spec.specs.File.{header, partition_numbers}
 use Rattle.pdi_spec.specs.Lists.{numbers}
 use Rattle.pdi_spec.specs.Ranges.{Range}
 use Rattle.chain_rules.specs.Chain.{file_of}
-use Rattle.pairs.specs.Lists.{Filled, ranges_in}
+use Rattle.pairs.specs.Lists.{ranges_in}
 use Rattle.range_lists.specs.Parts.{part_of, parts_of}
 use Rattle.chain_rules.proofs.Counts.{counted}
 use Rattle.range_lists.proofs.Lists.{made_joined, partition_more}
+use Rattle.range_lists.proofs.put_parts.Invariants.{one}
 use Rattle.range_lists.proofs.put_parts.Goals as goal
-
--- a partition's range
-abbrev one : File → ℕ → ℕ → List Range
-one f part p = part_of part (header f p) ∷ []
 
 pub loop-i-init : goal.loop-i-init
 unfolding flat_map numbers

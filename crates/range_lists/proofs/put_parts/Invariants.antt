@@ -1,18 +1,19 @@
 -- `range_lists::put_parts` meets its contract. The loop's invariant: after what was there lie the ranges of the first i partitions.
 -- Assumes nothing.
 use Prim.Native.Nat.{ℕ, ◌+◌, ◌-◌, ◌≤◌}
-use native.Mathlib.Omega.{arith}
-use mathlib.Core.List.{List, [], ◌∷◌, ◌++◌, flat_map, append-nil}
-use mathlib.Core.Path.{◌≡◌, sym, ap}
-use Rattle.pdi_spec.specs.File.{File, header, partition_numbers, partitions}
+use mathlib.Core.List.{List, [], ◌∷◌, ◌++◌, flat_map}
+use mathlib.Core.Path.{◌≡◌}
+use Rattle.pdi_spec.specs.File.{File, header}
 use Rattle.pdi_spec.specs.Lists.{numbers}
 use Rattle.pdi_spec.specs.Ranges.{Range}
 use Rattle.chain_rules.specs.Chain.{file_of}
 use Rattle.pairs.specs.Lists.{Filled, ranges_in}
-use Rattle.range_lists.specs.Parts.{part_of, parts_of}
-use Rattle.chain_rules.proofs.Counts.{counted}
-use Rattle.range_lists.proofs.Lists.{made_joined, partition_more}
+use Rattle.range_lists.specs.Parts.{part_of}
 use Rattle.range_lists.proofs.put_parts.Given as goal
+
+-- a partition's range
+abbrev pub one : File → ℕ → ℕ → List Range
+one f part p = part_of part (header f p) ∷ []
 
 abbrev pub invariant-loop-i : goal.invariant-loop-i
 invariant-loop-i l =

@@ -1,20 +1,13 @@
 -- `rows::bill::billed` meets its contract. The loop's invariant: `words` is the sum of the i total lengths passed, each below 2^32.
 -- Assumes nothing.
-use Prim.Native.Nat.{ℕ, ◌-◌, ◌*◌, ◌≤◌}
-use borrow.Author.Rules.{rules}
+use Prim.Native.Nat.{ℕ, ◌*◌}
 use native.Mathlib.Omega.{arith}
 use mathlib.Core.Path.{◌≡◌, sym, ◌∙◌, ap}
-use Rattle.pdi_spec.specs.File.{File}
 use Rattle.pdi_spec.specs.Headers.{Header}
-use Rattle.pdi_spec.proofs.Laws.Calls.{nothing}
 use Rattle.chain_rules.specs.Chain.{file_of}
 use Rattle.chain_rules.proofs.Counts.{counted}
-use Rattle.rows.proofs.Totals.{totals, totals_none, totals_more, totals_all}
-use Rattle.rows.proofs.bill.billed.Goals.{Start}
+use Rattle.rows.proofs.Totals.{totals_none, totals_more, totals_all}
 use Rattle.rows.proofs.bill.billed.Goals as goal
-
-abbrev file-of : Start → File
-file-of s = file_of s.args.image.now s.args.table
 
 pub loop-i-init : goal.loop-i-init
 loop-i-init c = (omega arith, sym (totals_none _), omega arith)
@@ -29,14 +22,13 @@ pub loop-i-preserved : goal.loop-i-preserved
 loop-i-preserved c =
     let l = c.loop-i in
     let read = ap (λ (h : Header). h.total) c.header_at-h.ensures in
-    (omega arith, omega (arith, read, totals_more (file-of c.before) l.i), omega arith)
+    (omega arith, omega (arith, read, totals_more (file_of c.args.image.now c.args.table) l.i), omega arith)
 
 pub overflow_mul-result : goal.overflow_mul-result
 overflow_mul-result c = omega (arith, c.requires.few)
 
 pub returns : goal.returns
 returns c =
-    let s = c.before in
     let l = c.loop-i in
-    let all : l.i ≡ s.args.table.partitions = omega arith in
-    ap (λ (k : ℕ). 4 * k) l.invariant.1 ∙ totals_all (file-of s) (all ∙ counted s.requires)
+    let all : l.i ≡ c.args.table.partitions = omega arith in
+    ap (λ (k : ℕ). 4 * k) l.invariant.1 ∙ totals_all (file_of c.args.image.now c.args.table) (all ∙ counted c.requires)

@@ -1,15 +1,9 @@
 -- `rows::bill::billed` meets its contract. The loop's invariant: `words` is the sum of the i total lengths passed, each below 2^32.
 -- Assumes nothing.
-use Prim.Native.Nat.{ℕ, ◌-◌, ◌*◌, ◌≤◌}
-use borrow.Author.Rules.{rules}
-use native.Mathlib.Omega.{arith}
-use mathlib.Core.Path.{◌≡◌, sym, ◌∙◌, ap}
-use Rattle.pdi_spec.specs.File.{File}
-use Rattle.pdi_spec.specs.Headers.{Header}
-use Rattle.pdi_spec.proofs.Laws.Calls.{nothing}
+use Prim.Native.Nat.{◌-◌, ◌*◌, ◌≤◌}
+use mathlib.Core.Path.{◌≡◌}
 use Rattle.chain_rules.specs.Chain.{file_of}
-use Rattle.chain_rules.proofs.Counts.{counted}
-use Rattle.rows.proofs.Totals.{totals, totals_none, totals_more, totals_all}
+use Rattle.rows.proofs.Totals.{totals}
 use Rattle.rows.proofs.bill.billed.Given as goal
 
 abbrev pub invariant-loop-i : goal.invariant-loop-i
