@@ -1,4 +1,6 @@
 // Rules 18 and 19: stored ranges that clash, and load ranges that clash.
+#![tactic(auto)]
+
 mod loads;
 mod stored;
 
