@@ -14,7 +14,8 @@ use Rattle.pdi_spec.specs.File.{File, table, is_full}
 use Rattle.pdi_spec.specs.Headers.{Table, header_size, table_from, boot_from}
 use Rattle.pdi_spec.specs.Ranges.{past, end_of}
 use Rattle.pdi_spec.specs.RuleList.{table_rules}
-use Rattle.pdi_spec.specs.Rules.{table_outside, table_checksum_wrong, kind_unknown, table_fields_bad, table_key_unknown, boot_header_bad, boot_header_wrong, image_headers_outside}
+use Rattle.pdi_spec.specs.Rules.{table_outside, table_checksum_wrong, kind_unknown, table_fields_bad, table_key_unknown}
+use Rattle.pdi_spec.specs.Rules.{boot_header_bad, boot_header_wrong, image_headers_outside}
 use Rattle.pdi_spec.specs.Verdict.{Outcome, once, first_broken}
 use Rattle.pdi_spec.specs.Words.{checksum}
 use Rattle.pdi_spec.proofs.Laws.Broken.{at_zero, once_verdict}
