@@ -1,4 +1,6 @@
 // Rules 11 to 16, of each partition header alone.
+#![tactic(auto)]
+
 mod conditions;
 mod stage;
 

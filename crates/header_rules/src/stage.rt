@@ -12,7 +12,7 @@ use chain_rules::{Answer, header_at};
 use headers::{MOST_PARTITIONS, PartitionHeader, TableHeader};
 
 // What rules 11 to 16 say of one header.
-#[derive(Drop)]
+#[derive(Clone, Copy)]
 pub enum HeaderAnswer {
     // The number of the lowest rule that it breaks.
     Refused(u64),

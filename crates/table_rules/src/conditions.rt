@@ -3,7 +3,8 @@
 ghost use Rattle.std.specs.Prelude.{◌+◌, ◌≤◌, ◌&&◌, not, ◌≡◌, eqb, length};
 ghost use Rattle.pdi_spec.specs.Answers.{asked};
 ghost use Rattle.pdi_spec.specs.Headers.{boot_from, boot_size, header_size};
-ghost use Rattle.pdi_spec.specs.Rules.{boot_header_bad, image_headers_outside, kind_unknown, not_from, table_fields_bad, table_key_unknown, table_outside};
+ghost use Rattle.pdi_spec.specs.Rules.{boot_header_bad, image_headers_outside, kind_unknown, not_from};
+ghost use Rattle.pdi_spec.specs.Rules.{table_fields_bad, table_key_unknown, table_outside};
 ghost use Rattle.pdi_spec.specs.Words.{checksum};
 ghost use Rattle.headers.specs.Headers.{boot_of, table_of};
 

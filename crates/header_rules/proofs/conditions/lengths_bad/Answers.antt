@@ -1,12 +1,8 @@
 -- `header_rules::conditions::lengths_bad` meets its contract: its tests, joined, are the definition's list. Assumes nothing.
 use Rattle.pdi_spec.specs.Rules.{lengths_bad}
 use Rattle.pdi_spec.proofs.Laws.Alternatives.{joined_any}
-use Rattle.header_rules.proofs.conditions.lengths_bad.Statement.{statement}
-use Rattle.header_rules.proofs.conditions.lengths_bad.Tie as tie
+use Rattle.header_rules.proofs.conditions.lengths_bad.Goals as goal
 
-returns : tie.Need-returns
+pub returns : goal.returns
 unfolding lengths_bad
 returns c = joined_any _ _
-
-pub lengths-bad-spec : {M : Type 1} → statement M
-lengths-bad-spec = tie.close (tie.spec returns)
