@@ -22,4 +22,8 @@ header_at-h-requires c =
 pub returns : goal.returns
 returns c =
     let held = c.check-reading.ensures in
-    let h = c.header_at-h.ensures in record { part = sym (part_is plain _ _ held c.in-Accepted.is _ (omega arith) (omega arith) h c.body.ensures); inside = ends plain _ _ held c.in-Accepted.is _ (omega arith) (omega arith) h c.body.ensures }
+    let h = c.header_at-h.ensures in
+    record {
+      part = sym (part_is plain _ _ held c.in-Accepted.is _ (omega arith) (omega arith) h c.body.ensures);
+      inside = ends plain _ _ held c.in-Accepted.is _ (omega arith) (omega arith) h c.body.ensures;
+    }
