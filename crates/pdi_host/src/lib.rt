@@ -1,5 +1,7 @@
 // The calls for C: read, bill, the length of a body and owner, on numbers and byte slices. The row buffer lies in bytes, 8 to a number,
 // little-endian. A slice is a pointer and a length to C; include/pdi.h declares the calls.
+#![tactic(auto)]
+
 ghost use Rattle.std.specs.Prelude.{◌*◌, ◌≤◌, ◌≡◌, length, take};
 ghost use mathlib.Core.List.{[], ◌∷◌, flat_map};
 ghost use Rattle.std.proofs.lemmas.List.Edits.{sets};
