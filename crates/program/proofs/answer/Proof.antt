@@ -7,7 +7,7 @@ use mathlib.Core.Path.{◌≡◌, sym}
 use lib.ListN.{length, get_or, replicate}
 use lib.Seq.{length-take-le}
 use Rattle.listing.specs.Printed.{print_answer, longest_printed}
-use Rattle.listing.specs.Laws.Printed.{answer_within}
+use Rattle.listing.proofs.Laws.Printed.{answer_within}
 use Rattle.program.proofs.answer.Statement.{statement}
 use Rattle.program.proofs.answer.Tie as tie
 

@@ -5,7 +5,7 @@ use native.Mathlib.Omega.{arith}
 use borrow.Fn.Kinds.{In}
 use borrow.Fn.PlainCycle.{Measures, is, falls, and}
 use lib.ListN.{length-set}
-use Rattle.listing.specs.Laws.Decimal.{decimal_some, length_more}
+use Rattle.listing.proofs.Laws.Decimal.{decimal_some, length_more}
 use Rattle.listing.proofs.Stores.{one_digit, last_digit}
 use Rattle.listing.proofs.decimal.put_decimal.Reads as own
 use Rattle.listing.proofs.decimal.put_decimal.Kinds as kinds

@@ -8,7 +8,7 @@ use lib.ListN.{length, drop}
 use lib.Seq.{sets}
 use Rattle.listing.specs.Pieces.{left}
 use Rattle.listing.specs.Printed.{line}
-use Rattle.listing.specs.Laws.Lines.{left_line}
+use Rattle.listing.proofs.Laws.Lines.{left_line}
 use Rattle.listing.proofs.Stores.{all_stored, number_fits, none_left, next_number}
 use Rattle.listing.proofs.lines.put_line.Statement.{statement}
 use Rattle.listing.proofs.lines.put_line.Tie as tie
