@@ -1,5 +1,7 @@
 // The program's input: version byte 1, image length and table place, 4 bytes each and big-endian, and the image.
 // An enum cannot hold a part of a slice, so the place is in the enum and the image's part is handed back beside it.
+#![tactic(auto)]
+
 ghost use Rattle.std.specs.Prelude.{◌≡◌, ◌+◌, ◌<◌, ◌≤◌, min, drop, length};
 ghost use Rattle.pdi_spec.specs.Envelope.{big_endian_at, envelope, envelope_head};
 ghost use Rattle.envelope.specs.Opened.{opened_as};
