@@ -21,8 +21,8 @@ override export PREFIX := $(value PREFIX)
 override export DESTDIR := $(value DESTDIR)
 
 ARCHIVE = target/staticlib/libpdi_host.a
-PROGRAM_ARCHIVE = target/staticlib/libprogram.a
-PROVED := $(shell find crates -name '*.rt' -o -name '*.antt')
+PROGRAM = target/bin/pdi
+PROVED := $(shell find crates -name out -prune -o \( -name '*.rt' -o -name '*.antt' \) -print)
 CLI_VERSION := $(shell cat cli/VERSION)
 CLI_SOURCES := $(wildcard cli/*.c)
 CLI_INPUTS := $(CLI_SOURCES) $(wildcard cli/*.h) include/pdi.h cli/VERSION $(ARCHIVE)
@@ -40,21 +40,25 @@ test:
 bench: target/cli/foliobriar target/bench/bench target/bench/stack
 	@bench/run
 
+program: $(PROGRAM)
 cli: target/cli/foliobriar
 cli-checked: target/cli-checked/foliobriar
 outside: target/outside/outside
 
+# The static library pdi_host_c has the calls of pdi_host, under their names; who links the archive knows it by that crate's name.
 $(ARCHIVE): crates.txt $(PROVED)
-	rt staticlib pdi_host >&2
+	cd crates/pdi_host_c && rt lib >&2
+	@mkdir -p $(@D)
+	install -m 644 crates/pdi_host_c/out/libpdi_host_c.a $@
 
-$(PROGRAM_ARCHIVE): crates.txt $(PROVED)
-	rt staticlib program >&2
+# `rt run` builds the program and then runs it, here on no input. `rt ci` leaves it there as well, proved and built.
+crates/pdi/out/pdi: crates.txt $(PROVED)
+	cd crates/pdi && rt run </dev/null >/dev/null
+	@touch $@
 
-# A `main` of the language has no exit status, and `rt` writes target/bin/pdi with such a one, so it is always linked anew, with `pdi_run`
-# of the archive as its main.
-program: $(PROGRAM_ARCHIVE)
-	@mkdir -p target/bin
-	$(CC) -Wl,--defsym=main=pdi_run -Wl,-u,pdi_run $(PROGRAM_ARCHIVE) $(LDFLAGS) -o target/bin/pdi
+$(PROGRAM): crates/pdi/out/pdi
+	@mkdir -p $(@D)
+	install -m 755 crates/pdi/out/pdi $@
 
 target/cli/foliobriar: $(CLI_INPUTS)
 	@mkdir -p $(@D)

@@ -1,4 +1,6 @@
 // The core: a question's rules in their order, one stage after another. Every question stands on it.
+#![tactic(auto)]
+
 ghost use Rattle.std.specs.Prelude.{◌≡◌, ◌≤◌, length};
 ghost use Rattle.pdi_spec.specs.Limits.{most_partitions};
 ghost use Rattle.pdi_spec.specs.RuleList.{later_rules, plain_rules};
@@ -14,7 +16,7 @@ use table_rules::TableAnswer;
 const LONGEST: usize = 1_073_741_824;
 
 // What the rules say of an image.
-#[derive(Drop)]
+#[derive(Clone, Copy)]
 pub enum Reading {
     // The number of the lowest rule that is broken, and the smallest p that breaks it.
     Refused(u64, u64),

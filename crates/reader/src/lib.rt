@@ -1,4 +1,6 @@
 // Read, bill and body, the three questions of document 01, and owner, of document 02, over the core.
+#![tactic(auto)]
+
 mod billing;
 mod bodies;
 mod owners;
