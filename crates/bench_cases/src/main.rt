@@ -2,10 +2,12 @@
 // tests/cli/bench_cases.py makes, and prints a line: the case's name, read's answer (64 × number + p), the bill, the length of the body,
 // the owner, and then each number of the row buffer that read changed, as index:number. The file stdout is from documents 01 and 02 and not
 // from a run. Assumes nothing: a case that is cut off is not asked.
+#![tactic(auto)]
+
 ghost use Rattle.std.specs.Prelude.{◌≤◌, length};
 
-use libc::{STDIN_FILENO, STDOUT_FILENO};
 use rows::BUFFER;
+use std::io;
 
 // A case is its name, padded with spaces; the image's length, how much of the row buffer is lent, p and the table place, little-endian; the
 // image. These are their byte offsets.
@@ -25,28 +27,26 @@ const ROWS: usize = BUFFER + 1;
 const FOUND: u64 = 7;
 
 // A space and a number.
-fn field(n: u64) {
-    io::write_all(STDOUT_FILENO, b" ");
-    io::print_decimal(STDOUT_FILENO, n);
+fn field(rt: &impl Print, n: u64) -> io::Result<()> {
+    print!(rt; " {n}")
 }
 
 // A number of the row buffer, after its index.
-fn entry(i: usize, n: u64) {
-    field(i as u64);
-    io::write_all(STDOUT_FILENO, b":");
-    io::print_decimal(STDOUT_FILENO, n);
+fn entry(rt: &impl Print, i: usize, n: u64) -> io::Result<()> {
+    print!(rt; " {i}:{n}")
 }
 
 // The numbers of the row buffer that are not as found.
-fn print_changes(rows: &[u64; ROWS]) {
+fn print_changes(rt: &impl Print, rows: &[u64; ROWS]) -> io::Result<()> {
     let mut i: usize = 0;
     while i < ROWS {
         let n = rows[i];
         if n != FOUND {
-            entry(i, n);
+            entry(rt, i, n)?;
         }
         i += 1;
     }
+    Ok(())
 }
 
 // Read's answer with the first n numbers of a row buffer.
@@ -59,44 +59,45 @@ fn read_into(image: &[u8], place: usize, rows: &mut [u64], n: usize) -> u64 {
 }
 
 // Asks all four questions of an image, and prints what they answer and what read changed.
-fn ask(image: &[u8], place: usize, n: usize, p: usize) {
+fn ask(rt: &impl Print, image: &[u8], place: usize, n: usize, p: usize) -> io::Result<()> {
     let mut rows = [FOUND; ROWS];
-    field(read_into(image, place, &mut rows, n));
-    field(reader::bill(image, place));
+    field(rt, read_into(image, place, &mut rows, n))?;
+    field(rt, reader::bill(image, place))?;
     let body = reader::body(image, place, p);
-    field(body.len() as u64);
-    field(reader::owner(image, place, p));
-    print_changes(&rows);
-    io::write_all(STDOUT_FILENO, b"\n");
+    field(rt, body.len() as u64)?;
+    field(rt, reader::owner(image, place, p))?;
+    print_changes(rt, &rows)?;
+    rt.println("")
 }
 
 // The fields of a case.
-fn case(bytes: &[u8])
+fn case(rt: &impl Print, bytes: &[u8]) -> io::Result<()>
     requires { 52 ≤ length bytes.now }
 {
-    io::write_all(STDOUT_FILENO, &bytes[0..LENGTH]);
+    rt.write_all(&bytes[0..LENGTH])?;
     let n = words::word_at(bytes, LENT) as usize;
     let p = words::word_at(bytes, PARTITION) as usize;
     let low = words::word_at(bytes, PLACE) as usize;
     let high = words::word_at(bytes, PLACE + 4) as usize;
-    ask(&bytes[IMAGE..], low + 0x1_0000_0000 * high, n, p);
+    ask(rt, &bytes[IMAGE..], low + 0x1_0000_0000 * high, n, p)
 }
 
 // One case after another.
-fn cases(input: &[u8]) {
+fn cases(rt: &impl Print, input: &[u8]) -> io::Result<()> {
     let mut at: usize = 0;
     while IMAGE <= input.len() - at {
         let size = IMAGE + words::word_at(input, at + LENGTH) as usize;
         if input.len() - at < size {
-            return;
+            return Ok(());
         }
-        case(&input[at..at + size]);
+        case(rt, &input[at..at + size])?;
         at += size;
     }
+    Ok(())
 }
 
-fn main() {
-    let mut input = io::large_buffer();
-    let n = io::read_full(STDIN_FILENO, &mut input);
-    cases(&input[..n]);
+fn main(rt: HostRuntime) -> io::Result<()> {
+    let mut input = inputs::large_buffer();
+    let n = inputs::read_full(&mut rt.stdin(), &mut input)?;
+    cases(&rt, &input[..n])
 }

@@ -1,29 +1,30 @@
 // What the leaves cost: calls one of them 1,000 times for each thousand asked, so that counted instructions of two runs give the cost of a
 // call. Standard input has a letter for the leaf, a digit for the thousands, and the bytes to read: with too few for every leaf at every
 // offset no leaf is called. It assumes nothing of them.
+#![tactic(auto)]
+
 ghost use Rattle.std.specs.Prelude.{◌+◌, ◌*◌, ◌≤◌, length};
 ghost use Rattle.pdi_spec.specs.Headers.{boot_size};
 
 use attributes::Attributes;
 use headers::{BootHeader, HashEntry, PartitionHeader, TableHeader};
-use libc::{STDIN_FILENO, STDOUT_FILENO};
+use std::io;
 
 // The offsets are the first words' of the bytes, so many of them; from each on there is room for a boot header, the most that a leaf reads.
 const OFFSETS: usize = 64;
 
 const ENOUGH: usize = 4 * OFFSETS + BootHeader::SIZE;
 
-fn main() {
-    let mut buffer = io::large_buffer();
-    let n = io::read_full(STDIN_FILENO, &mut buffer);
+fn main(rt: HostRuntime) -> io::Result<()> {
+    let mut buffer = inputs::large_buffer();
+    let n = inputs::read_full(&mut rt.stdin(), &mut buffer)?;
     let input = &buffer[..n];
     let sum = if n < 2 + ENOUGH {
         0
     } else {
         turns(&input[2..], input[0], 1000 * ((input[1] % 16) as usize))
     };
-    io::print_decimal(STDOUT_FILENO, sum as u64);
-    io::write_all(STDOUT_FILENO, b"\n");
+    println!(rt; "{sum}")
 }
 
 // Each turn reads at another offset, and each result counts, so that no call can be left out.
@@ -40,7 +41,7 @@ fn turns(image: &[u8], leaf: u8, n: usize) -> u32
 }
 
 fn added(a: u32, b: u32) -> u32 {
-    std::num::wrapping_add_u32(a, b)
+    a.wrapping_add(b)
 }
 
 fn one(image: &[u8], leaf: u8, at: usize) -> u32

@@ -1,4 +1,9 @@
-// The program, where no exit status is asked for: a `main` has none. `make program` links the one that has.
-fn main() {
-    program::pdi_run();
+// The program, whose exit status is what `pdi_run` answers.
+#![tactic(auto)]
+
+use std::process::ExitCode;
+
+fn main(rt: HostRuntime) -> ExitCode {
+    let status = program::pdi_run(&mut rt.stdin(), &mut rt.stdout(), &rt);
+    ExitCode::from(status as u8)
 }

@@ -1,5 +1,7 @@
 // The calls for C: read, bill, the length of a body and owner, on numbers and byte slices. The row buffer lies in bytes, 8 to a number,
-// little-endian. A slice is a pointer and a length to C; include/pdi.h declares the calls.
+// little-endian. A static library is no library for other crates, so pdi_host_c hands the calls to C.
+#![tactic(auto)]
+
 ghost use Rattle.std.specs.Prelude.{◌*◌, ◌≤◌, ◌≡◌, length, take};
 ghost use mathlib.Core.List.{[], ◌∷◌, flat_map};
 ghost use Rattle.std.proofs.lemmas.List.Edits.{sets};
@@ -34,8 +36,7 @@ fn too_short(image: &[u8], place: usize) -> u64
 }
 
 // Read's answer; an acceptance stores the head and the rows, and changes no other byte of the row buffer.
-#[unsafe(no_mangle)]
-pub extern "C" fn pdi_read(image: &[u8], place: u64, rows: &mut [u8]) -> u64
+pub fn pdi_read(image: &[u8], place: u64, rows: &mut [u8]) -> u64
     ensures answers { result ≡ host_answer image.now place rows.old }
     ensures writes { rows.new ≡ host_rows image.now place rows.old }
 {
@@ -52,16 +53,14 @@ pub extern "C" fn pdi_read(image: &[u8], place: u64, rows: &mut [u8]) -> u64
 }
 
 // Bill's answer.
-#[unsafe(no_mangle)]
-pub extern "C" fn pdi_bill(image: &[u8], place: u64) -> u64
+pub fn pdi_bill(image: &[u8], place: u64) -> u64
     ensures { result ≡ bill_answer image.now place }
 {
     reader::bill(image, place as usize)
 }
 
 // How long body's answer is.
-#[unsafe(no_mangle)]
-pub extern "C" fn pdi_body_length(image: &[u8], place: u64, p: u64) -> u64
+pub fn pdi_body_length(image: &[u8], place: u64, p: u64) -> u64
     ensures { result ≡ length (body_answer image.now place p) }
 {
     let body = reader::body(image, place as usize, p as usize);
@@ -69,8 +68,7 @@ pub extern "C" fn pdi_body_length(image: &[u8], place: u64, p: u64) -> u64
 }
 
 // Owner's answer.
-#[unsafe(no_mangle)]
-pub extern "C" fn pdi_owner(image: &[u8], place: u64, p: u64) -> u64
+pub fn pdi_owner(image: &[u8], place: u64, p: u64) -> u64
     ensures { result ≡ owner_answer image.now place p }
 {
     reader::owner(image, place as usize, p as usize)

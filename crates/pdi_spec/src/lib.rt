@@ -1,1 +1,2 @@
 // The crate has definitions and claims only, in specs/: no code.
+#![tactic(auto)]

@@ -1,10 +1,13 @@
 // The program: it reads standard input, has `listing` say what is printed, and writes that to standard output. Nothing else is decided
-// here. A contract can't speak of what a call of the system reads or writes.
-ghost use Rattle.std.specs.Prelude.{◌≤◌, ◌<◌, ◌⊎◌, ◌≡◌, pos, length};
-ghost use Rattle.listing.specs.Printed.{longest_input};
-ghost use Rattle.program.specs.Readings.{Within};
+// here. A contract can't speak of what a call of the system reads or writes, so it speaks of readers and writers whose bytes are known.
+#![tactic(auto)]
 
-use libc::{STDERR_FILENO, STDIN_FILENO, STDOUT_FILENO};
+ghost use Rattle.std.specs.Prelude.{◌≤◌, ◌<◌, ◌⊎◌, ◌≡◌, pos, length, IfSome, IsTrue};
+ghost use Rattle.std.specs.Io.KnownBytes.{Appends};
+ghost use Rattle.listing.specs.Printed.{longest_input, printed};
+ghost use Rattle.program.specs.Readings.{Given, Within};
+
+use std::io::{Read, Write};
 
 // The longest input, and one byte more: where that is read too, there are too many.
 const ROOM: usize = envelope::HEAD + envelope::LONGEST + 1;
@@ -25,52 +28,41 @@ enum Input {
     Bytes(usize),
 }
 
-// One read, behind the first n bytes: -1, or how many bytes came.
-fn read_on(buffer: &mut [u8], n: usize) -> isize
-    requires { n ≤ length buffer.old }
-{
-    libc::read(STDIN_FILENO, &mut buffer[n..])
-}
-
 // Reads until the input ends or the buffer is full.
-fn read_input(buffer: &mut [u8]) -> Input
-    ensures { Within (length buffer.new) result }
+fn read_input<R: Read>(reader: &mut R, buffer: &mut [u8]) -> Input
+    ensures within { Within (length buffer.new) result }
+    ensures given { Given (R.remaining reader.old) (R.remaining reader.new) buffer.new result }
 {
-    let mut n: usize = 0;
-    while n < buffer.len() {
-        let got = read_on(buffer, n);
-        if got < 0 {
-            return Input::Failed;
-        }
-        let more = io::count(got, &buffer[n..]);
-        if more == 0 {
-            return Input::Bytes(n);
-        }
-        n += more;
+    match inputs::read_full(reader, buffer) {
+        Ok(n) => Input::Bytes(n),
+        Err(_) => Input::Failed,
     }
-    Input::Bytes(n)
 }
 
 // Writes what is printed for this input; false where not all could be written.
-fn answer(input: &[u8]) -> bool {
+fn answer<W: Write>(input: &[u8], writer: &mut W) -> bool
+    ensures { IsTrue result → Appends (W.contents writer.old) (W.contents writer.new) (printed input.now) }
+{
     let mut out = [0u8; listing::LONGEST];
     let n = listing::print(input, &mut out);
-    io::write_all(STDOUT_FILENO, &out[..n])
+    writer.write_all(&out[..n]).is_ok()
 }
 
-// The exit status: 0, or 1 where standard input couldn't be read or standard output couldn't be written.
-#[unsafe(no_mangle)]
-pub extern "C" fn pdi_run() -> i32
-    ensures { (result ≡ pos 0) ⊎ (result ≡ pos 1) }
+// The exit status: 0, or 1 where standard input couldn't be read or standard output couldn't be written. At 0, what was written is what is
+// printed for all that was there to be read, also where some of it was left unread.
+pub fn pdi_run<R: Read, W: Write, E: Eprint>(reader: &mut R, writer: &mut W, messages: &E) -> i32
+    ensures status { (result ≡ pos 0) ⊎ (result ≡ pos 1) }
+    ensures prints { result ≡ pos 0
+        → IfSome (R.remaining reader.old) (λ input. Appends (W.contents writer.old) (W.contents writer.new) (printed input)) }
 {
     let mut buffer = input_buffer();
-    let Input::Bytes(n) = read_input(&mut buffer) else {
-        io::write_all(STDERR_FILENO, b"pdi: standard input can't be read\n");
+    let Input::Bytes(n) = read_input(reader, &mut buffer) else {
+        let _ = messages.eprintln("pdi: standard input can't be read");
         return 1;
     };
-    if answer(&buffer[..n]) {
+    if answer(&buffer[..n], writer) {
         return 0;
     }
-    io::write_all(STDERR_FILENO, b"pdi: standard output can't be written\n");
+    let _ = messages.eprintln("pdi: standard output can't be written");
     1
 }
