@@ -11,7 +11,7 @@ use Rattle.pdi_spec.proofs.Laws.Plain.{plain}
 use Rattle.envelope.specs.Opened.{opened_as}
 use Rattle.envelope.specs.declared.Opened.{Opened}
 use Rattle.listing.specs.Printed.{printed_of, envelope_text, printed_by, printed, longest_printed, print_answer, print_buffer}
-use Rattle.listing.specs.Laws.Printed.{held, longest, printed_bad, printed_holds}
+use Rattle.listing.proofs.Laws.Printed.{held, longest, printed_bad, printed_holds}
 
 -- ---- what is opened
 

@@ -1,3 +1,5 @@
+pub mod Claims
 pub mod Inputs
+pub mod Laws
 pub mod Readings
 pub mod Stores

@@ -12,7 +12,7 @@ use borrow.Author.Tests.{eqb-true, eqb-false}
 use Rattle.pdi_spec.specs.{Limits.head_width, Limits.row_width, Limits.buffer_numbers, Answers.asked, Answers.read_by, Answers.rows_by, Supported.Supported, Verdict.Rule}
 use Rattle.pdi_spec.proofs.Laws.{Answers.read_length, Answers.rows_fit}
 use Rattle.listing.specs.Printed.{printed_of, answer_line, buffer_lines}
-use Rattle.listing.specs.Laws.Buffers.{refused_lines, accepted_lines}
+use Rattle.listing.proofs.Laws.Buffers.{refused_lines, accepted_lines}
 use Rattle.listing.proofs.Stores.{two_pieces}
 
 module _ {own : List Rule} (s : Supported own) (image : List ℕ) (place : ℕ) (rows : List ℕ) (serves : buffer_numbers ≤ length rows)

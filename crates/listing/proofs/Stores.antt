@@ -11,8 +11,8 @@ use Rattle.pdi_spec.proofs.Laws.Lists.{sets_append}
 use Rattle.listing.specs.Decimal.{digit, decimal}
 use Rattle.listing.specs.Pieces.{mark, left}
 use Rattle.listing.specs.Printed.{line, row_lines}
-use Rattle.listing.specs.Laws.Lines.{left_more}
-use Rattle.listing.specs.Laws.Decimal.{decimal_small, decimal_more, length_more}
+use Rattle.listing.proofs.Laws.Lines.{left_more}
+use Rattle.listing.proofs.Laws.Decimal.{decimal_small, decimal_more, length_more}
 
 -- a number of one digit
 pub one_digit : (out : List ℕ) (at n : ℕ) {d : ℕ} → n < 10 → d ≡ digit n

@@ -1,5 +1,3 @@
-pub mod Claims
 pub mod Decimal
-pub mod Laws
 pub mod Pieces
 pub mod Printed

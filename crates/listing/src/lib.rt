@@ -1,4 +1,6 @@
 // What the program prints for an input, as bytes.
+#![tactic(auto)]
+
 mod decimal;
 mod lines;
 mod reading;

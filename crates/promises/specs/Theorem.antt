@@ -13,7 +13,7 @@ use Rattle.pdi_spec.specs.RuleList.{rule17, table_rules, header_rules, partition
 use Rattle.pdi_spec.specs.Verdict.{once, each, each_and_table, accepted, verdict, Kept, Keeps}
 use Rattle.pdi_spec.proofs.Laws.Kept.{by_number}
 use Rattle.pdi_spec.proofs.Claims
-use Rattle.listing.specs.Claims as ListingClaims
+use Rattle.listing.proofs.Claims as ListingClaims
 use Rattle.listing.specs.Printed.{envelope_text, longest_input}
 use Rattle.promises.specs.Demands.{Refusals, Acceptance, Statements, Loading, Counting, Demands}
 use Rattle.promises.specs.Owners.{Owners}

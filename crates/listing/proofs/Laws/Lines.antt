@@ -5,7 +5,7 @@ use Rattle.pdi_spec.proofs.Laws.Lists.{Every}
 use Rattle.listing.specs.Decimal.{decimal}
 use Rattle.listing.specs.Pieces.{mark, left}
 use Rattle.listing.specs.Printed.{space, line_feed, spaced, line, most_digits}
-use Rattle.listing.specs.Laws.Decimal.{decimal_length}
+use Rattle.listing.proofs.Laws.Decimal.{decimal_length}
 
 -- a line is its first number, the byte after it and what is left
 pub line_more : (n : ℕ) (ns : List ℕ) → line (n ∷ ns) ≡ (decimal n ++ (mark ns ∷ [])) ++ left ns

@@ -10,8 +10,8 @@ use Rattle.pdi_spec.specs.{Limits.longest_program_image, Limits.most_partitions,
 use Rattle.pdi_spec.proofs.Laws.{Envelope.envelope_bad_lem, Plain.plain, Refusals.few_partitions, Refusals.refusal_below, Refusals.refusal_p, Refusals.with_room, Widths.head_narrow, Widths.row_narrow}
 use Rattle.listing.specs.Decimal.{digit, digits_up_to, decimal}
 use Rattle.listing.specs.Printed.{spaced, line, number_and_p, lines, printed_of, envelope_text, printed_as, printed_by, printed, longest_input, longest_printed, most_digits, print_answer}
-use Rattle.listing.specs.Laws.Buffers.{printed_accepts, printed_refuses}
-use Rattle.listing.specs.Laws.Lines.{line_short, line_some}
+use Rattle.listing.proofs.Laws.Buffers.{printed_accepts, printed_refuses}
+use Rattle.listing.proofs.Laws.Lines.{line_short, line_some}
 
 -- ---- what an input holds
 

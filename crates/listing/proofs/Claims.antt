@@ -8,7 +8,7 @@ use Rattle.pdi_spec.specs.{Limits.answer_unit, Limits.head_width, Limits.buffer_
 use Rattle.pdi_spec.proofs.Laws.Plain.{plain}
 use Rattle.listing.specs.Decimal.{digit, digits_up_to, decimal, value}
 use Rattle.listing.specs.Printed.{line, printed, envelope_text, longest_input, longest_printed, print_answer, answer_line, row_lines, buffer_lines}
-use Rattle.listing.specs.Laws
+use Rattle.listing.proofs.Laws
 
 -- ---- decimal text
 
