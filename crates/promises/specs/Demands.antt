@@ -19,7 +19,6 @@ use Rattle.pdi_spec.specs.Stated.{Stated, by_rows, loadable, in_spans}
 use Rattle.pdi_spec.specs.Twice.{PositionTwice, AddressTwice, SmallestMeeting}
 use Rattle.pdi_spec.specs.Verdict.{Rule, Keeps, FirstRefusal}
 use Rattle.pdi_spec.specs.Words.{word_at}
-use Rattle.pdi_spec.proofs.Claims
 use Rattle.promises.specs.Owners.{Owners}
 
 -- Demand 1: "a refusal changes nothing".

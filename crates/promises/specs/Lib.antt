@@ -2,4 +2,3 @@
 pub mod Demands
 pub mod Owners
 pub mod Printing
-pub mod Theorem

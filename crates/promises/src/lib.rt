@@ -2,6 +2,8 @@
 // is restated here from the definitions, and proved from the callee's contract alone. A contract that promises less, or asks something of
 // its caller, no longer proves this crate.
 // specs/Demands.antt gathers what is claimed of the definitions. Assumes nothing, and nothing depends on it.
+#![tactic(auto)]
+
 ghost use Rattle.std.specs.Prelude.{◌+◌, min, ◌≡◌, length, drop};
 ghost use Rattle.pdi_spec.specs.Answers.{read_answer, read_rows, bill_answer, body_part, body_answer, owner_answer};
 ghost use Rattle.pdi_spec.specs.Envelope.{envelope, envelope_head};
