@@ -50,7 +50,8 @@ module _ {own : List Rule} (s : Supported own) (image : List ℕ) (place : ℕ) 
         (omega (arith, fit, ap length ea, read_length s image place rows), omega (arith, sizes))
 
     pub accepted_stored : (out : List ℕ) {middle end : ℕ} {between last : List ℕ} → middle ≡ length (answer_line r)
-        → between ≡ sets out 0 (answer_line r) → end ≡ middle + length (buffer_lines after) → last ≡ sets between middle (buffer_lines after)
+        → between ≡ sets out 0 (answer_line r) → end ≡ middle + length (buffer_lines after)
+        → last ≡ sets between middle (buffer_lines after)
         → (end ≡ length (printed_of own (asked image place))) × (last ≡ sets out 0 (printed_of own (asked image place)))
     accepted_stored out em eb ee el =
         let whole = two_pieces out (answer_line r) (buffer_lines after) 0 (em ∙ omega arith) eb ee el in

@@ -72,7 +72,8 @@ left_split numbers i h =
     ap left (drop-cons numbers i 0 h ∙ ap (λ (k : ℕ). get_or numbers i 0 ∷ drop k numbers) (sym (add-one i)))
     ∙ left_more (get_or numbers i 0) (drop (i + 1) numbers)
 
-pub number_fits : (numbers : List ℕ) (i : ℕ) → i < length numbers → length (decimal (get_or numbers i 0)) + 1 ≤ length (left (drop i numbers))
+pub number_fits : (numbers : List ℕ) (i : ℕ) → i < length numbers
+    → length (decimal (get_or numbers i 0)) + 1 ≤ length (left (drop i numbers))
 number_fits numbers i h =
     let text = decimal (get_or numbers i 0) in
     let m = mark (drop (i + 1) numbers) in

@@ -48,7 +48,8 @@ module _ {own : List Rule} (s : Supported own) (image : List ℕ) (place : ℕ) 
   unfolding with_rows
   same_verdict = with_room buffer_numbers (length rows) own f room
 
-  pub refused_lines : (read_by own image place rows ≡ 0 → ⊥) → printed_of own (asked image place) ≡ answer_line (read_by own image place rows)
+  pub refused_lines : (read_by own image place rows ≡ 0 → ⊥)
+      → printed_of own (asked image place) ≡ answer_line (read_by own image place rows)
   unfolding read_by answer_line answer with_rows
   refused_lines n = go (verdict (with_rows (length rows) own) f) refl
     where

@@ -63,7 +63,8 @@ lines_short : (f : File) → ((i : ℕ) → get_or f.bytes i 0 < 256) → partit
 unfolding lines partition_numbers head row_numbers
 lines_short f bytes few =
     let row : ℕ → List ℕ = λ p. line (row_numbers (row_of f p)) in
-    let rows = rows_short row ((most_digits + 1) * 8) (λ p. line_short (row_numbers (row_of f (suc p))) (omega arith) (row_narrow f bytes p)) 0
+    let rows =
+    rows_short row ((most_digits + 1) * 8) (λ p. line_short (row_numbers (row_of f (suc p))) (omega arith) (row_narrow f bytes p)) 0
     (partitions f) in
     omega (
       arith,

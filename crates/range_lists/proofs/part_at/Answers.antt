@@ -35,7 +35,8 @@ returns-then-part-eq-BODY c =
 pub returns-then-has_load_address : goal.returns-then-has_load_address
 unfolding load_of
 returns-then-has_load_address c =
-    rw (load (goal.at.returns-then-has_load_address c).After-has_load_address, sym c.has_load_address.ensures ∙ c.if-has_load_address.true) c.load_range.ensures
+    let d = (goal.at.returns-then-has_load_address c).After-has_load_address in
+    rw (load d, sym c.has_load_address.ensures ∙ c.if-has_load_address.true) c.load_range.ensures
 
 pub returns : goal.returns
 unfolding load_of

@@ -39,4 +39,7 @@ pub returns : goal.returns
 returns c =
     let l = c.loop-i in
     let all : l.i ≡ c.args.table.partitions = omega arith in
-    record { filled = record { room = l.invariant.2.room; held = rw (blocks_joined c.requires.chain, ← all) l.invariant.2.held }; fits = omega (arith, c.requires.chain.few) }
+    record {
+      filled = record { room = l.invariant.2.room; held = rw (blocks_joined c.requires.chain, ← all) l.invariant.2.held };
+      fits = omega (arith, c.requires.chain.few);
+    }

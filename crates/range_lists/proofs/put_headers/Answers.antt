@@ -13,4 +13,7 @@ put_parts-requires c =
 pub returns : goal.returns
 returns c =
     let first = c.put_first-first.ensures in
-    record { filled = rw (headers_joined c.requires.chain) (and_then _ first.filled c.put_parts.ensures.filled); few = omega (arith, first.few, c.requires.chain.few) }
+    record {
+      filled = rw (headers_joined c.requires.chain) (and_then _ first.filled c.put_parts.ensures.filled);
+      few = omega (arith, first.few, c.requires.chain.few);
+    }

@@ -40,4 +40,7 @@ returns c =
     let l = c.loop-i in
     let all : l.i ≡ c.args.table.partitions = omega arith in
     let parts = made_joined (λ p. part_of c.args.part (header (file_of c.args.image.now c.args.table) p)) (numbers 1 l.i) in
-    record { filled = record { room = l.invariant.2.room; held = rw (← counted c.requires.chain, ← all, parts) l.invariant.2.held }; counted = omega arith }
+    record {
+      filled = record { room = l.invariant.2.room; held = rw (← counted c.requires.chain, ← all, parts) l.invariant.2.held };
+      counted = omega arith;
+    }

@@ -18,7 +18,8 @@ one f part p = part_of part (header f p) ∷ []
 abbrev pub invariant-loop-i : goal.invariant-loop-i
 invariant-loop-i l =
     (l.i ≤ l.n) × (l.next ≡ l.at + l.i)
-    × Filled l.starts l.sizes l.next (ranges_in l.initial.starts l.initial.sizes l.at ++ flat_map (one (file_of l.image l.table) l.part) (numbers 1 l.i))
+    × Filled l.starts l.sizes l.next
+    (ranges_in l.initial.starts l.initial.sizes l.at ++ flat_map (one (file_of l.image l.table) l.part) (numbers 1 l.i))
 
 abbrev pub decreases-loop-i : goal.decreases-loop-i
 decreases-loop-i l = l.n - l.i

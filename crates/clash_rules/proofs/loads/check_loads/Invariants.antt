@@ -10,7 +10,8 @@ use Rattle.clash_rules.proofs.loads.check_loads.Given as goal
 
 abbrev pub invariant-loop-j : goal.invariant-loop-j
 invariant-loop-j l =
-    (l.found ≡ 0) × (l.j ≤ l.i) × ((k : ℕ) → k < l.j → overlap (load (file_of l.image l.table) (l.i + 1)) (load (file_of l.image l.table) (k + 1)) ≡ false)
+    (l.found ≡ 0) × (l.j ≤ l.i)
+    × ((k : ℕ) → k < l.j → overlap (load (file_of l.image l.table) (l.i + 1)) (load (file_of l.image l.table) (k + 1)) ≡ false)
 
 abbrev pub decreases-loop-j : goal.decreases-loop-j
 decreases-loop-j l = l.i - l.j

@@ -16,7 +16,10 @@ put_parts-beside-requires c =
 
 pub any_block_clash-requires : goal.any_block_clash-requires
 any_block_clash-requires c =
-    record { blocks_fit = c.put_blocks-blocks.ensures.fits; ranges_fit = omega (arith, c.put_parts-beside.ensures.counted, c.requires.inside) }
+    record {
+      blocks_fit = c.put_blocks-blocks.ensures.fits;
+      ranges_fit = omega (arith, c.put_parts-beside.ensures.counted, c.requires.inside);
+    }
 
 pub returns-then-blocks-eq0 : goal.returns-then-blocks-eq0
 unfolding ranges_in numbers block_clash crossing any_of any_pair

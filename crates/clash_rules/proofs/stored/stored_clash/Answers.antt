@@ -47,7 +47,11 @@ returns-then-any_clash c = rw (stored_tests _, spans_told (goal.at.returns-then-
 
 pub blocks_clash-requires : goal.blocks_clash-requires
 blocks_clash-requires c =
-    record { chain = c.requires; filled = still _ c.put_headers-headers.ensures.filled c.put_parts-all.ensures.filled (omega arith); inside = c.put_headers-headers.ensures.few }
+    record {
+      chain = c.requires;
+      filled = still _ c.put_headers-headers.ensures.filled c.put_parts-all.ensures.filled (omega arith);
+      inside = c.put_headers-headers.ensures.few;
+    }
 
 pub returns : goal.returns
 returns c =

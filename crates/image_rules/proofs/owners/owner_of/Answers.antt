@@ -31,7 +31,8 @@ overflow_add-owned c =
 pub returns-then-p-owned : goal.returns-then-p-owned
 returns-then-p-owned c =
     let l = c.loop-i in
-    reached _ l.invariant.1 (count_is (goal.at.returns-then-p-owned c).After-image_header_at-h) (omega (arith, images_are _ c.requires.own)) c.if-p-owned.true
+    reached _ l.invariant.1 (count_is (goal.at.returns-then-p-owned c).After-image_header_at-h)
+    (omega (arith, images_are _ c.requires.own)) c.if-p-owned.true
 
 pub loop-i-preserved : goal.loop-i-preserved
 loop-i-preserved c =

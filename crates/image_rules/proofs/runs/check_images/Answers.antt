@@ -32,7 +32,8 @@ pub returns-then-owned-table : goal.returns-then-owned-table
 unfolding verdict once first_of Option-elim answer_of
 returns-then-owned-table c =
     let l = c.loop-i in
-    rw (not_whole _ l.invariant.1 (omega (arith, images_are _ c.requires.inside.own)) (λ e. c.if-owned-table.true (e ∙ sym (counted c.requires.chain)))) refl
+    let all = images_are _ c.requires.inside.own in
+    rw (not_whole _ l.invariant.1 (omega (arith, all)) (λ e. c.if-owned-table.true (e ∙ sym (counted c.requires.chain)))) refl
 
 pub returns : goal.returns
 unfolding verdict once first_of Option-elim answer_of

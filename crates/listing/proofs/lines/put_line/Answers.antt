@@ -23,7 +23,8 @@ pub loop-i-preserved : goal.loop-i-preserved
 loop-i-preserved c =
     let l = c.loop-i in
     let call = c.put_number-end in
-    let next = next_number c.args.numbers.now l.out l.end l.i c.loop-i-test.true c.mark_after.ensures call.ensures.answers call.ensures.writes in
+    let next =
+    next_number c.args.numbers.now l.out l.end l.i c.loop-i-test.true c.mark_after.ensures call.ensures.answers call.ensures.writes in
     record {
       within = omega arith;
       kept = call.auto.out ∙ l.invariant.kept;
@@ -35,5 +36,6 @@ pub returns : goal.returns
 returns c =
     let a = c.args in
     let l = c.loop-i in
-    let stored = all_stored (line a.numbers.now) a.out.now a.at (none_left a.numbers.now l.i (omega arith)) l.invariant.size l.invariant.same in
+    let none = none_left a.numbers.now l.i (omega arith) in
+    let stored = all_stored (line a.numbers.now) a.out.now a.at none l.invariant.size l.invariant.same in
     record { answers = stored.0; writes = stored.1 }

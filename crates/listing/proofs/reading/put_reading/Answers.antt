@@ -27,7 +27,8 @@ pub put_buffer-requires : goal.put_buffer-requires
 put_buffer-requires c =
     let read = c.read-answer.ensures in
     let fits =
-    buffer_fits plain c.args.image.now c.args.place (replicate buffer_numbers 0) (omega arith) read.answers c.if-answer-ne0.false read.writes in
+    buffer_fits plain c.args.image.now c.args.place (replicate buffer_numbers 0) (omega arith) read.answers c.if-answer-ne0.false
+    read.writes in
     record { enough = fits.0; room = omega (arith, fits.1, c.requires) }
 
 pub returns : goal.returns
