@@ -161,6 +161,24 @@ def rename_core(root):
         f.write(re.sub(r"\bcore\b", "checks", lines))
 
 
+# Fields that would have a definition's name, by their crate: each has a name of its own.
+FIELDS = {
+    "pdi_spec": {"in_image_lem": "inside_image", "first_broken_lem": "broken_first"},
+    "promises": {"hash_entry_lem": "hash_entries", "host_rows_lem": "host_leaves_rows"},
+}
+
+
+def rename_fields(root):
+    for path in files(root):
+        new = FIELDS.get(os.path.relpath(path, root).split(os.sep)[1])
+        if new and path.endswith(".antt"):
+            text = read(path)
+            to = NAME.sub(lambda m: new.get(m.group(0), m.group(0)), text)
+            if to != text:
+                with open(path, "w", encoding="utf-8") as f:
+                    f.write(to)
+
+
 def main(argv):
     root = os.getcwd()
     if argv != ["--list"]:
@@ -180,6 +198,7 @@ def main(argv):
             with open(path, "w", encoding="utf-8") as f:
                 f.write(to)
             n += 1
+    rename_fields(root)
     print(f"respell: {len(new)} names, {n} files")
     return 0
 

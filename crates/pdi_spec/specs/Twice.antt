@@ -20,7 +20,7 @@ pub data LiesInTwo (f : File) (x : ℕ) : Type 0 where
 -- "A position is a byte offset below the image's length."
 pub record PositionTwice (f : File) : Type 0 where
   pub position : ℕ
-  pub in_image_lem : position < length f.bytes
+  pub inside_image : position < length f.bytes
   pub lies : LiesInTwo f position
 
 -- partition p's load range shares an address with that of the earlier partition e

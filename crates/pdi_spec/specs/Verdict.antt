@@ -62,4 +62,4 @@ pub record FirstRefusal (rs : List Rule) (f : File) (number p : ℕ) : Type 0 wh
   pub listed : rs ≡ earlier ++ (rule ∷ later)
   pub numbered : rule.number ≡ number
   pub earlier_kept : Keeps earlier f
-  pub first_broken_lem : FirstBroken rule f p
+  pub broken_first : FirstBroken rule f p

@@ -1,2 +1,2 @@
-// The crate has definitions and claims only, in specs/: no code.
+// The crate has definitions, in specs/, and what is claimed and proved of them, in proofs/: no code.
 #![tactic(auto)]

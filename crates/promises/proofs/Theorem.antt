@@ -81,7 +81,7 @@ statements =
     record {
       head = λ image place rows e. Claims.Rows.head_stated _ (asked image place) rows (verdict_is image place rows e);
       row = λ image place rows e. Claims.Rows.row_stated _ (asked image place) rows (verdict_is image place rows e);
-      hash_entry_lem = λ image place rows e p l h.
+      hash_entries = λ image place rows e p l h.
           Claims.Rows.hash_entry_stated (asked image place) p l h (blocks_kept image place rows e);
       rest = λ image place rows e. Claims.Rows.rest_untouched _ (asked image place) rows (verdict_is image place rows e);
       as_long = Claims.Rows.buffer_as_long;
@@ -92,7 +92,7 @@ statements =
           let long = (Claims.Rows.body_answer_stated image place p ((Claims.Acceptance.read_accepts image place rows).0 e).1 l h).1 in
           (ap (λ (r : Range). r.start) t.0, t.1, long);
       no_body = λ image place p. Claims.Rows.no_such_body _ (asked image place) p;
-      host_rows_lem = Claims.Answers.host_leaves_reads;
+      host_leaves_rows = Claims.Answers.host_leaves_reads;
     }
 
 owners : Owners

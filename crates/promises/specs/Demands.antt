@@ -114,7 +114,7 @@ pub record Statements : Type 0 where
       ∷ (header (asked image place) p).attributes
       ∷ []
   -- Its hash entry is 0 where there is no block, and else the byte offset of the block's one entry with the index p.
-  pub hash_entry_lem : (image : List ℕ) (place : ℕ) (rows : List ℕ) → read_answer image place rows ≡ 0
+  pub hash_entries : (image : List ℕ) (place : ℕ) (rows : List ℕ) → read_answer image place rows ≡ 0
       → (p : ℕ) → 1 ≤ p → p ≤ partitions (asked image place)
       → ((no_block (hash_block (asked image place) p) ≡ true) × (hash_entry (asked image place) p ≡ 0))
       ⊎ ((k : ℕ)
@@ -141,7 +141,7 @@ pub record Statements : Type 0 where
       × (length (body_answer image place p) ≡ 4 * (header (asked image place) p).encrypted)
   pub no_body : (image : List ℕ) (place p : ℕ) → (p < 1) ⊎ (partitions (asked image place) < p) → body_answer image place p ≡ []
   -- The host's row buffer, read as numbers, is what read leaves of those numbers.
-  pub host_rows_lem : (image : List ℕ) (place : ℕ) (bytes : List ℕ) → ((i : ℕ) → get_or image i 0 < 256)
+  pub host_leaves_rows : (image : List ℕ) (place : ℕ) (bytes : List ℕ) → ((i : ℕ) → get_or image i 0 < 256)
       → host_numbers (host_rows image place bytes) ≡ read_rows image place (host_numbers bytes)
 
 -- Demand 3: "loading accepted partitions in any order gives one memory, no address written twice", by the rows that read wrote.

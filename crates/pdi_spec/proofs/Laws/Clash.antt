@@ -79,7 +79,7 @@ module _ (f : File) where
             let inside = stored_inside f keeps t.0 (Sublist.subset t.2 t.0 mem-cons_self) in
             record {
               position = s.0;
-              in_image_lem = position t.0 s.0 inside s.1;
+              inside_image = position t.0 s.0 inside s.1;
               lies = two_stored t.0 t.1 t.2 s.1 s.2;
             }
 
@@ -90,7 +90,7 @@ module _ (f : File) where
             let s = overlap_shared t.0 u.0 u.2 in
             record {
               position = s.0;
-              in_image_lem = position t.0 s.0 (blocks_inside f keeps t.0 t.1) s.1;
+              inside_image = position t.0 s.0 (blocks_inside f keeps t.0 t.1) s.1;
               lies = block_and_stored t.0 u.0 t.1 u.1 s.1 s.2;
             }
 
@@ -103,7 +103,7 @@ module _ (f : File) where
             let inside = blocks_inside f keeps t.0 (Sublist.subset t.2 t.0 mem-cons_self) in
             record {
               position = s.0;
-              in_image_lem = position t.0 s.0 inside s.1;
+              inside_image = position t.0 s.0 inside s.1;
               lies = two_blocks t.0 t.1 t.2 (λ q. never_both (equal_same t.0 t.1 q) other) s.1 s.2;
             }
 

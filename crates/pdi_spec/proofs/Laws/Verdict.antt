@@ -103,7 +103,7 @@ refused_first (r ∷ rs) f k p e = go (refused_first rs f k p) (first_of (r.brok
           listed = ap (λ (l : List Rule). r ∷ l) t.listed;
           numbered = t.numbered;
           earlier_kept = keeps_cons r t.earlier f (first_none (r.broken f) (r.tried f) q) t.earlier_kept;
-          first_broken_lem = t.first_broken_lem;
+          broken_first = t.broken_first;
         }
     go ih (some x) q =
         let same : refused r.number x ≡ refused k p = sym (verdict_step r rs f (some x) q) ∙ e in
@@ -116,13 +116,13 @@ refused_first (r ∷ rs) f k p e = go (refused_first rs f k p) (first_of (r.brok
           listed = refl;
           numbered = same_number;
           earlier_kept = λ s m. absurd (not-mem-nil m);
-          first_broken_lem = first_some (r.broken f) (r.tried f) p (q ∙ ap some same_p);
+          broken_first = first_some (r.broken f) (r.tried f) p (q ∙ ap some same_p);
         }
 
 -- and where a rule is the first broken one, the list refuses with it
 pub first_refused : (rs : List Rule) (f : File) (k p : ℕ) → FirstRefusal rs f k p → verdict rs f ≡ refused k p
 first_refused rs f k p t =
-    let b = t.first_broken_lem in
+    let b = t.broken_first in
     let first = split_first (t.rule.broken f) b.before p b.after b.passes b.none_before in
     rw (t.listed, verdict_skip t.earlier (t.rule ∷ t.later) f t.earlier_kept, ← t.numbered)
     (verdict_broken t.rule t.later f p (ap (first_of (t.rule.broken f)) b.split ∙ first))
@@ -134,7 +134,7 @@ pub refusal_rule : (rs : List Rule) (f : File) (k p : ℕ) → verdict rs f ≡ 
     → (r : Rule) × Mem r rs × (r.number ≡ k) × Mem p (r.tried f)
 refusal_rule rs f k p e =
     let t = refused_first rs f k p e in
-    let b = t.first_broken_lem in
+    let b = t.broken_first in
     (t.rule, mem_split t.earlier t.later t.listed, t.numbered, mem_split b.before b.after b.split)
 
 -- so its number is one of the list's
