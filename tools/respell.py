@@ -1,7 +1,7 @@
 #!/usr/bin/env python3
 """Spells the repository's own definitions and lemmas as today's Rattle does: in snake case, types and modules in camel case.
 
-usage: python3 tools/respell.py      once, at the top, after /opt/rattle/port/port.py and before any edit by hand
+usage: python3 tools/respell.py      once, at the top, after the kit's port/port.py and before any edit by hand
        python3 tools/respell.py --list   writes nothing: prints each old name and its new one, and the names that would fall together
 
 A definition, lemma, field or constructor in lower camel case gets underscores, and so does a dash, but before a fact, which keeps its
@@ -19,7 +19,9 @@ SNAKE = re.compile(r"[a-z0-9_]+")
 DECLARED = re.compile(
     r"^(\s*)(?:(?:pub|abbrev|unfoldable|private)\s+)*([A-Za-z_][\w'₀-₉-]*)((?:\s+[A-Za-z_][\w'₀-₉-]*)*)\s+:(?:\s|$)"
 )
-KIT_HEADS = ("Rattle.std", "mathlib", "lib", "native", "borrow", "Prim", "denote", "logic", "specs.contracts", "antt", "store", "prog", "types")
+KIT_HEADS = (
+    *("Rattle.std", "mathlib", "lib", "native", "borrow", "Prim", "denote", "logic", "specs.contracts", "antt", "store", "prog", "types"),
+)
 
 
 def files(root):
@@ -42,7 +44,8 @@ def goals(path):
 
 def goals_of(text):
     """The names of goals in a proof's own file: those that its last definition hands on, and its own."""
-    return set(NAME.findall(text[text.find("tie.close"):])) | {m.group(1) for m in re.finditer(r"(?m)^(?:pub |abbrev |unfoldable )*([\w'-]+) : (?:tie\.|goal\.|\{M : )", text)}
+    declared_as = re.finditer(r"(?m)^(?:pub |abbrev |unfoldable )*([\w'-]+) : (?:tie\.|goal\.|\{M : )", text)
+    return set(NAME.findall(text[text.find("tie.close"):])) | {m.group(1) for m in declared_as}
 
 
 def declared(root):

@@ -1,6 +1,7 @@
 // The image header table.
 ghost use Rattle.std.specs.Prelude.{◌≡◌, ◌+◌, ◌≤◌, length};
-ghost use Rattle.pdi_spec.specs.Headers.{header_size, image_header_words_of, kind_from, partition_header_words_of, table_from, table_words_of};
+ghost use Rattle.pdi_spec.specs.Headers.{header_size, kind_from, table_from};
+ghost use Rattle.pdi_spec.specs.Headers.{image_header_words_of, partition_header_words_of, table_words_of};
 ghost use Rattle.pdi_spec.specs.Ranges.{image_headers, table_with_optional};
 ghost use Rattle.headers.specs.Headers.{table_of};
 ghost use Rattle.ranges.specs.Range.{range_of};

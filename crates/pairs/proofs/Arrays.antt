@@ -48,7 +48,8 @@ module _ (starts sizes : List ℕ) (n : ℕ) where
 
   -- ---- tests of some of them
 
-  pub clash_found : (test : Range → Range → Bool) (i j : ℕ) → i < j → j < n → test (range_at starts sizes i) (range_at starts sizes j) ≡ true
+  pub clash_found : (test : Range → Range → Bool) (i j : ℕ) → i < j → j < n
+      → test (range_at starts sizes i) (range_at starts sizes j) ≡ true
       → any_pair test (ranges_in starts sizes n) ≡ true
   clash_found test i j l m e =
       pair_found nowhere test (ranges_in starts sizes n) i j l (omega (arith, count)) (rw (at_index i (omega arith), at_index j m) e)

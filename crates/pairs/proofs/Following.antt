@@ -97,7 +97,8 @@ module _ (places lengths : List ℕ) (m : ℕ) (order : InOrder true places leng
   -- what lies outside of the first and the last of them overlaps none
   pub outside_apart : {first last : Range} (starts sizes : List ℕ) (n : ℕ) → first ≡ range_at places lengths 0
       → last ≡ range_at places lengths (m - 1)
-      → Outside first last starts sizes n → (i j : ℕ) → i < m → j < n → overlap (range_at places lengths i) (range_at starts sizes j) ≡ false
+      → Outside first last starts sizes n → (i j : ℕ) → i < m → j < n
+      → overlap (range_at places lengths i) (range_at starts sizes j) ≡ false
   outside_apart starts sizes n p q out i j l k =
       ⊎_elim (λ h. apart _ _ (omega (arith, h, ap (λ (r : Range). r.start) p, (bounds 0 i (omega arith) l).0)))
       (λ h. apart _ _ (omega (arith, h, ap end_of q, (bounds i (m - 1) (omega arith) (omega arith)).1))) (out j k)

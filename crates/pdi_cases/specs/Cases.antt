@@ -9,7 +9,8 @@ use Rattle.pdi_spec.specs.Answers.{answer, if_accepted, head_and_rows, asked}
 
 -- an image's length, with all definitions opened that a case computes: who opens this one opens them
 unfoldable pub computed : List ℕ → ℕ
-unfolding opened those bench_words bytes_of set sealed all_sealed longer edited unsealed words table_behind two_words two_partitions two_images
+unfolding opened those bench_words bytes_of set sealed all_sealed longer edited unsealed words table_behind two_words two_partitions
+    two_images
 computed image = length image
 
 -- ---- one rule alone: an image at place 0, the rule's number, and what document 01 says. A rule computes much faster than all of them.

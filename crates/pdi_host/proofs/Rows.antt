@@ -28,7 +28,8 @@ module _ {own : List Rule} (s : Supported own) (image : List ℕ) (place : ℕ) 
     unfolding rows_by
     taken =
         ap₂ (λ (n : ℕ) (l : List ℕ). take (head_width + row_width * n) l) count (en ∙ after_accepted _ f rows accepted_by)
-        ∙ take_at (head_and_rows f) (drop (head_width + row_width * partitions f) rows) (head_width + row_width * partitions f) (written_length f)
+        ∙ take_at (head_and_rows f) (drop (head_width + row_width * partitions f) rows) (head_width + row_width * partitions f)
+        (written_length f)
 
   -- Read's own buffer, which held 0: as long as before, and no more numbers to store than it has, of a refusal too, which leaves it as
   -- found.

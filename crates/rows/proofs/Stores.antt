@@ -29,7 +29,8 @@ unfolding row_numbers
 row_width_lem r = refl
 
 -- a row, from its header, the header's two ranges and its hash entry
-pub row_told : (f : File) (p : ℕ) {h : Header} {s r : Range} {key entry : ℕ} → h ≡ header f p → s ≡ span_of h → r ≡ (load_range_of h).addresses
+pub row_told : (f : File) (p : ℕ) {h : Header} {s r : Range} {key entry : ℕ} → h ≡ header f p → s ≡ span_of h
+    → r ≡ (load_range_of h).addresses
     → key ≡ h.key → entry ≡ hash_entry f p
     → s.start ∷ s.size ∷ r.size ∷ r.start ∷ h.execution ∷ key ∷ entry ∷ h.attributes ∷ [] ≡ row_numbers (row_of f p)
 unfolding row_numbers row_of span load_range
@@ -54,7 +55,8 @@ pub turn : (f : File) (start : List ℕ) (i : ℕ) {rows row after : List ℕ} �
     → after ≡ sets start head_width (first_rows f (i + 1))
 turn f start i er ew ea =
     rw (ea, er, ew)
-    (sets_append start (first_rows f i) (row_numbers (row_of f (i + 1))) head_width (head_width + row_width * i) (omega (arith, rows_length f i))
+    (sets_append start (first_rows f i) (row_numbers (row_of f (i + 1))) head_width (head_width + row_width * i)
+    (omega (arith, rows_length f i))
     ∙ ap (sets start head_width) (sym (rows_more f i)))
 
 -- ---- the whole

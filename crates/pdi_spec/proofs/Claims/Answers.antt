@@ -57,7 +57,8 @@ module _ (image : List ℕ) (place : ℕ) where
         )
 
     -- A buffer of fewer numbers than serve: number 1 for an image that is too long, and else 2.
-    pub read_short : length rows < buffer_numbers → read_answer image place rows ≡ answer_unit * cond (image_too_long (asked image place)) 1 2
+    pub read_short : length rows < buffer_numbers
+        → read_answer image place rows ≡ answer_unit * cond (image_too_long (asked image place)) 1 2
     unfolding read_by with_rows
     read_short = Laws.Questions.short_answer buffer_numbers (length rows) plain_rules (asked image place)
 
@@ -80,7 +81,8 @@ module _ (image : List ℕ) (place : ℕ) where
     host_leaves_reads = Laws.HostNumbers.host_numbers_lem plain image place bytes
 
     -- A buffer of fewer bytes than serve: number 1 for an image that is too long, and else 2.
-    pub host_short : length bytes < buffer_bytes → host_answer image place bytes ≡ answer_unit * cond (image_too_long (asked image place)) 1 2
+    pub host_short : length bytes < buffer_bytes
+        → host_answer image place bytes ≡ answer_unit * cond (image_too_long (asked image place)) 1 2
     unfolding host_read_by with_host_rows
     host_short = Laws.Questions.short_answer buffer_bytes (length bytes) plain_rules (asked image place)
 

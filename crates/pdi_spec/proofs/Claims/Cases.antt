@@ -18,7 +18,8 @@ envelope_bad_lem = Laws.Envelope.envelope_bad_lem
 
 -- .. and else it holds the bytes behind the first 9, and the place that bytes 5 to 8 state.
 pub envelope_held : (input : List ℕ) → byte_at input 0 ≡ 1 → big_endian_at input 1 ≤ longest_program_image
-    → length input ≡ envelope_head + big_endian_at input 1 → envelope input ≡ holds (asked (drop envelope_head input) (big_endian_at input 5))
+    → length input ≡ envelope_head + big_endian_at input 1
+    → envelope input ≡ holds (asked (drop envelope_head input) (big_endian_at input 5))
 envelope_held = Laws.Envelope.envelope_held
 
 -- "Block 0 of 004 has 320 bytes and 8 of padding, which is six entries".

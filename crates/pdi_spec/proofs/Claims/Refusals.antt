@@ -38,7 +38,8 @@ pub answer_tells : (k p : ℕ) → p < answer_unit → (answer (refused k p) / a
 answer_tells = Laws.Refusals.answer_tells
 
 -- A refusal leaves the row buffer as found.
-pub refusal_writes_nothing : (rs : List Rule) (f : File) (rows : List ℕ) (k p : ℕ) → verdict rs f ≡ refused k p → rows_after rs f rows ≡ rows
+pub refusal_writes_nothing : (rs : List Rule) (f : File) (rows : List ℕ) (k p : ℕ) → verdict rs f ≡ refused k p
+    → rows_after rs f rows ≡ rows
 refusal_writes_nothing = Laws.Rows.after_refused
 
 -- It bills 0.

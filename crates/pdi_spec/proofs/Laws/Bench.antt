@@ -8,15 +8,19 @@ use Rattle.pdi_spec.specs.{Lists.numbers, Lists.sum_of, Lists.any_true, Lists.an
 -- 1,099 words is too long a computation.
 unfoldable pub opened : Case → Seen
 unfolding numbers sum_of any_true any_of any_pair first_of is_in count_of byte_at word_at run checksum spells common_keys zero_or_common
-    zero_common_or_user user_keys block_from FPDI PPDI kind_from table_from header_from image_header_from XNLX boot_from has_load_address table
+    zero_common_or_user user_keys block_from FPDI PPDI kind_from table_from header_from image_header_from XNLX boot_from has_load_address
+    table
     is_full partitions partition_numbers header_at header hash_block images image_numbers image_header_at image_header owned_up_to run_start
-    image_checksum_bad run_misplaced image_headers_bad entries_in entry_numbers hash_entry_in size_of_entries entry_at has_index own_entries end_of
+    image_checksum_bad run_misplaced image_headers_bad entries_in entry_numbers hash_entry_in size_of_entries entry_at has_index
+    own_entries end_of
     overlap past span spans header_ranges block_ranges hash_blocks loads load_range address_space body bodies same_range meet once each
     each_and_table verdict not_from image_too_long buffer_too_short table_outside table_checksum_wrong kind_unknown table_fields_bad
     table_key_unknown boot_header_wrong image_headers_outside chain_broken header_checksum_bad attribute_word_bad attributes_bad key_unknown
-    lengths_bad span_outside load_address_bad hash_block_wrong stored_ranges_clash load_ranges_clash boot_header_bad hash_block_bad table_rules
+    lengths_bad span_outside load_address_bad hash_block_wrong stored_ranges_clash load_ranges_clash boot_header_bad hash_block_bad
+    table_rules
     header_rules partition_rules reading_rules clash_rules image_rules later_rules plain_rules without_buffer with_buffer with_rows
-    with_host_rows answer if_accepted row_numbers hash_entry row_of billed head head_and_rows written bill_under le_bytes put in_image_header
+    with_host_rows answer if_accepted row_numbers hash_entry row_of billed head head_and_rows written bill_under le_bytes put
+    in_image_header
     in_header bench_image righted edited seen flat_map Option-elim
 opened c = seen c
 

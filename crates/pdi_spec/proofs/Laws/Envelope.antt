@@ -17,7 +17,8 @@ module _ (input : List ℕ) where
   stated = big_endian_at input 1
 
   -- version 1, a length that is not over the longest, and as many bytes
-  pub envelope_held : byte_at input 0 ≡ 1 → big_endian_at input 1 ≤ longest_program_image → length input ≡ envelope_head + big_endian_at input 1
+  pub envelope_held : byte_at input 0 ≡ 1 → big_endian_at input 1 ≤ longest_program_image
+      → length input ≡ envelope_head + big_endian_at input 1
       → envelope input ≡ holds (asked (drop envelope_head input) (big_endian_at input 5))
   unfolding envelope envelope_bad
   envelope_held v s l =
@@ -53,7 +54,8 @@ module _ (input : List ℕ) where
       another : Bool
       another = not (eqb (length input) (envelope_head + stated))
 
-      to : (byte_at input 0 ≡ 1 → ⊥) ⊎ ((longest_program_image < stated) ⊎ (length input ≡ envelope_head + stated → ⊥)) → envelope input ≡ bad
+      to : (byte_at input 0 ≡ 1 → ⊥) ⊎ ((longest_program_image < stated) ⊎ (length input ≡ envelope_head + stated → ⊥))
+          → envelope input ≡ bad
       to (inl v) = is_bad (or_inl (version || longer) another (or_inl version longer (ap not (ne_eqb (byte_at input 0) 1 v))))
       to (inr (inl s)) = is_bad (or_inl (version || longer) another (or_inr version longer (lt-ltb longest_program_image stated s)))
       to (inr (inr l)) = is_bad (or_inr (version || longer) another (ap not (ne_eqb (length input) (envelope_head + stated) l)))

@@ -69,7 +69,8 @@ module _ (f : File) where
   -- its clauses
   abbrev clauses : List Bool
   clauses =
-      any_of wrong_sum (image_numbers f) ∷ any_of owns_none (image_numbers f) ∷ other_total ∷ any_of (run_misplaced f) (image_numbers f) ∷ []
+      any_of wrong_sum (image_numbers f) ∷ any_of owns_none (image_numbers f) ∷ other_total ∷ any_of (run_misplaced f) (image_numbers f)
+      ∷ []
 
   none_broken : any_true clauses ≡ false → AllOwnRuns f
   unfolding image_checksum_bad run_misplaced

@@ -65,7 +65,8 @@ module _ (f : File) (keeps : Keeps reading_rules f) where
 
   -- every range that rule 18 wants disjoint from the others
   pub stored_inside : (r : Range) → Mem r (header_ranges f ++ spans f) → Inside f r
-  unfolding header_ranges spans image_headers_outside reading_rules table_rules partition_rules header_rules first_of once each each_and_table
+  unfolding header_ranges spans image_headers_outside reading_rules table_rules partition_rules header_rules first_of once each
+      each_and_table
   stored_inside =
       let end = length f.bytes in
       let lie = kept_once 9 (with_table image_headers_outside) f (reading_kept f keeps 9 refl) in

@@ -46,7 +46,8 @@ row_length f p = refl
 
 pub written_length : (f : File) → length (head_and_rows f) ≡ head_width + row_width * partitions f
 unfolding head_and_rows head partition_numbers row
-written_length f = omega (arith, flat_map_length row_width (row f) (row_length f) (numbers 1 (partitions f)), numbers_length 1 (partitions f))
+written_length f =
+    omega (arith, flat_map_length row_width (row f) (row_length f) (numbers 1 (partitions f)), numbers_length 1 (partitions f))
 
 -- an acceptance writes the head and the rows, and leaves the rest
 pub after_accepted : (rs : List Rule) (f : File) (rows : List ℕ) → verdict rs f ≡ accepted
@@ -71,7 +72,8 @@ module _ (rs : List Rule) (f : File) (rows : List ℕ) (e : verdict rs f ≡ acc
   pub rest_after : drop (head_width + row_width * partitions f) (rows_after rs f rows) ≡ drop (head_width + row_width * partitions f) rows
   rest_after =
       ap (drop (head_width + row_width * partitions f)) (after_accepted rs f rows e)
-      ∙ drop_at (head_and_rows f) (drop (head_width + row_width * partitions f) rows) (head_width + row_width * partitions f) (written_length f)
+      ∙ drop_at (head_and_rows f) (drop (head_width + row_width * partitions f) rows) (head_width + row_width * partitions f)
+      (written_length f)
 
   pub length_after : head_width + row_width * partitions f ≤ length rows → length (rows_after rs f rows) ≡ length rows
   length_after h =
@@ -80,7 +82,8 @@ module _ (rs : List Rule) (f : File) (rows : List ℕ) (e : verdict rs f ≡ acc
       ∙ omega (arith, written_length f, length-drop (head_width + row_width * partitions f) rows)
 
   -- what stands from row j + 1 on: the row, and what follows it
-  row_from : (j : ℕ) → j < partitions f → (tail : List ℕ) × (drop (head_width + row_width * j) (rows_after rs f rows) ≡ row f (suc j) ++ tail)
+  row_from : (j : ℕ) → j < partitions f
+      → (tail : List ℕ) × (drop (head_width + row_width * j) (rows_after rs f rows) ≡ row f (suc j) ++ tail)
   unfolding head_and_rows head partition_numbers row
   row_from j h =
       let rest = drop (head_width + row_width * partitions f) rows in
