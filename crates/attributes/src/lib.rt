@@ -1,5 +1,5 @@
-// A partition's attribute word: the fields that a rule names, and what rule 12 asks of them. Tests are joined by `|`, which runs both
-// sides: with no branch, one fact is left to prove of a function, that its answer is the definition's.
+// A partition's attribute word: the fields that a rule names, and what rule 12 asks of them. Rule 12's tests are joined by `|`, which runs
+// both sides: with no branch, one fact is left to prove, that the answer is the definition's.
 #![tactic(auto)]
 
 ghost use Rattle.std.specs.Prelude.{[], ◌∷◌, ◌≡◌};
@@ -9,21 +9,23 @@ ghost use Rattle.pdi_spec.specs.Lists.{is_in};
 ghost use Rattle.pdi_spec.specs.Rules.{attribute_word_bad};
 
 // An attribute word.
-#[derive(Clone, Copy)]
+#[derive(Clone, Copy, PartialEq, Eq)]
 pub struct Attributes {
     pub word: u32,
 }
 
+#[tactic(auto, unfolding(pdi_spec::specs::Lists::is_in, pdi_spec::specs::Lists::any_of))]
 fn is_either(x: u32, a: u32, b: u32) -> bool
     ensures { result ≡ is_in x (a ∷ b ∷ []) }
 {
-    (x == a) | (x == b)
+    x == a || x == b
 }
 
+#[tactic(auto, unfolding(pdi_spec::specs::Lists::is_in, pdi_spec::specs::Lists::any_of))]
 fn known_cpu(x: u32) -> bool
     ensures { result ≡ is_in x (0 ∷ 1 ∷ 2 ∷ 3 ∷ 4 ∷ 5 ∷ 6 ∷ 8 ∷ 9 ∷ []) }
 {
-    (x == 0) | (x == 1) | (x == 2) | (x == 3) | (x == 4) | (x == 5) | (x == 6) | (x == 8) | (x == 9)
+    matches!(x, 0..=6 | 8 | 9)
 }
 
 // The fields, and what they say.
@@ -32,74 +34,75 @@ impl Attributes {
     pub fn cluster(self) -> u32
         ensures { result ≡ cluster_of self.word }
     {
-        self.word / 0x2000_0000 % 8
+        words::bits::<29, 3>(self.word)
     }
 
     // Bits 28:27.
     pub fn dpa(self) -> u32
         ensures { result ≡ dpa_of self.word }
     {
-        self.word / 0x800_0000 % 4
+        words::bits::<27, 2>(self.word)
     }
 
     // Bits 26:24.
     pub fn partition_type(self) -> u32
         ensures { result ≡ type_of self.word }
     {
-        self.word / 0x100_0000 % 8
+        words::bits::<24, 3>(self.word)
     }
 
     // Bits 22:21.
     pub fn reserved(self) -> u32
         ensures { result ≡ reserved_of self.word }
     {
-        self.word / 0x20_0000 % 4
+        words::bits::<21, 2>(self.word)
     }
 
     // Bits 20:19.
     pub fn tcm_flag(self) -> u32
         ensures { result ≡ tcm_flag_of self.word }
     {
-        self.word / 0x8_0000 % 4
+        words::bits::<19, 2>(self.word)
     }
 
     // Bits 17:16.
     pub fn owner(self) -> u32
         ensures { result ≡ owner_of self.word }
     {
-        self.word / 0x1_0000 % 4
+        words::bits::<16, 2>(self.word)
     }
 
     // Bits 13:12.
     pub fn checksum_type(self) -> u32
         ensures { result ≡ checksum_type_of self.word }
     {
-        self.word / 0x1000 % 4
+        words::bits::<12, 2>(self.word)
     }
 
     // Bits 11:8.
     pub fn cpu(self) -> u32
         ensures { result ≡ cpu_of self.word }
     {
-        self.word / 0x100 % 16
+        words::bits::<8, 4>(self.word)
     }
 
     // Bits 5:4.
     pub fn lockstep(self) -> u32
         ensures { result ≡ lockstep_of self.word }
     {
-        self.word / 0x10 % 4
+        words::bits::<4, 2>(self.word)
     }
 
     // The partition has a load address: its type is 1, 4 or 5.
+    #[tactic(auto, unfolding(pdi_spec::specs::Attributes::has_load_address, pdi_spec::specs::Lists::is_in, pdi_spec::specs::Lists::any_of))]
     pub fn has_load_address(self) -> bool
         ensures { result ≡ has_load_address self.word }
     {
-        let kind = self.partition_type();
-        (kind == 1) | (kind == 4) | (kind == 5)
+        matches!(self.partition_type(), 1 | 4 | 5)
     }
 
     // Rule 12, of the word alone.
+    #[tactic(auto, unfolding(pdi_spec::specs::Rules::attribute_word_bad, pdi_spec::specs::Lists::any_true))]
     pub fn is_bad(self) -> bool
         ensures { result ≡ attribute_word_bad self.word }
     {

@@ -31,37 +31,21 @@ fn field(rt: &impl Print, n: u64) -> io::Result<()> {
     print!(rt; " {n}")
 }
 
-// A number of the row buffer, after its index.
-fn entry(rt: &impl Print, i: usize, n: u64) -> io::Result<()> {
-    print!(rt; " {i}:{n}")
-}
-
-// The numbers of the row buffer that are not as found.
+// The numbers of the row buffer that are not as found, each after its index.
 fn print_changes(rt: &impl Print, rows: &[u64; ROWS]) -> io::Result<()> {
-    let mut i: usize = 0;
-    while i < ROWS {
-        let n = rows[i];
-        if n != FOUND {
-            entry(rt, i, n)?;
+    for (i, n) in rows.iter().enumerate() {
+        if *n != FOUND {
+            print!(rt; " {i}:{n}")?;
         }
-        i += 1;
     }
     Ok(())
 }
 
-// Read's answer with the first n numbers of a row buffer.
-fn read_into(image: &[u8], place: usize, rows: &mut [u64], n: usize) -> u64 {
-    if n < rows.len() {
-        reader::read(image, place, &mut rows[0..n])
-    } else {
-        reader::read(image, place, rows)
-    }
-}
-
-// Asks all four questions of an image, and prints what they answer and what read changed.
+// Asks all four questions of an image, read with the first n numbers of the row buffer, and prints what they answer and what read changed.
 fn ask(rt: &impl Print, image: &[u8], place: usize, n: usize, p: usize) -> io::Result<()> {
     let mut rows = [FOUND; ROWS];
-    field(rt, read_into(image, place, &mut rows, n))?;
+    let lent = n.min(ROWS);
+    field(rt, reader::read(image, place, &mut rows[..lent]))?;
     field(rt, reader::bill(image, place))?;
     let body = reader::body(image, place, p);
     field(rt, body.len() as u64)?;
@@ -84,14 +68,14 @@ fn case(rt: &impl Print, bytes: &[u8]) -> io::Result<()>
 
 // One case after another.
 fn cases(rt: &impl Print, input: &[u8]) -> io::Result<()> {
-    let mut at: usize = 0;
-    while IMAGE <= input.len() - at {
-        let size = IMAGE + words::word_at(input, at + LENGTH) as usize;
-        if input.len() - at < size {
-            return Ok(());
-        }
-        case(rt, &input[at..at + size])?;
-        at += size;
+    let mut rest = input;
+    while IMAGE <= rest.len() {
+        let size = IMAGE + words::word_at(rest, LENGTH) as usize;
+        let Some((first, others)) = rest.split_at_checked(size) else {
+            break;
+        };
+        case(rt, first)?;
+        rest = others;
     }
     Ok(())
 }

@@ -1,5 +1,5 @@
 -- What is said of one block: by the tests before the search, and by what the two searches find. Assumes nothing.
-use Prim.Native.Nat.{ℕ, ◌+◌, ◌*◌, ◌≤◌, ◌<◌}
+use Prim.Native.Nat.{ℕ, ◌+◌, ◌*◌, ◌≤◌}
 use native.Mathlib.Omega.{arith}
 use mathlib.Core.Bool.{Bool, true, false, not, ◌||◌}
 use mathlib.Core.List.{List, [], ◌∷◌}
@@ -17,8 +17,9 @@ use Rattle.pdi_spec.proofs.Laws.HashBlock.{no_entry}
 use Rattle.pdi_spec.proofs.Laws.Alternatives.{any_by_last}
 use Rattle.pdi_spec.proofs.Laws.Searches.{NoneOf, found}
 use Rattle.pdi_spec.proofs.Laws.Tests.{or_right}
-use Rattle.block_rules.specs.Entries.{NextEntry, block_answer, block_answer_of}
-use Rattle.block_rules.specs.declared.entries.BlockAnswer.{BlockAnswer}
+use Rattle.std.specs.Prelude.{Option, None, Some, Ok, Err, is_some}
+use Rattle.refusals.specs.declared.Rule.{Rule}
+use Rattle.block_rules.specs.Entries.{FirstEntry, NextEntry, NoEntry, block_answer, block_answer_of}
 use Rattle.block_rules.proofs.Counts.{count_none, count_one, count_two}
 
 -- the code's tests of the size and the offset: n entries, of this size
@@ -41,17 +42,17 @@ module _ (bytes : List ℕ) (i : ℕ) (b : Block) where
 
   -- ---- the answer
 
-  pub absent : no_block b ≡ true → BlockAnswer.Checked 0 ≡ block_answer bytes i b
+  pub absent : no_block b ≡ true → Ok 0 ≡ block_answer bytes i b
   unfolding block_answer block_answer_of
   absent none = rw (none, no_entry bytes i b none)
 
   module _ (some : no_block b ≡ false) where
-    pub refused : hash_block_bad bytes i b ≡ true → BlockAnswer.Refused ≡ block_answer bytes i b
+    pub refused : hash_block_bad bytes i b ≡ true → Err Rule.HashBlockWrong ≡ block_answer bytes i b
     unfolding block_answer block_answer_of
     refused bad = rw (some, bad)
 
     pub checked : hash_block_bad bytes i b ≡ false → {entry : ℕ} → entry ≡ hash_entry_in bytes b i
-        → BlockAnswer.Checked entry ≡ block_answer bytes i b
+        → Ok entry ≡ block_answer bytes i b
     unfolding block_answer block_answer_of
     checked good e = rw (some, good, e)
 
@@ -61,35 +62,38 @@ module _ (bytes : List ℕ) (i : ℕ) (b : Block) where
   from_0 : (k : ℕ) {t : Bool} → has_index bytes b i k ≡ t → has_index bytes b i (0 + k) ≡ t
   from_0 k e = ap (has_index bytes b i) {x = 0 + k} {y = k} (omega arith) ∙ e
 
-  module _ {own : ℕ} (first : NextEntry bytes b i 0 own) where
+  pub none_own : NoEntry bytes b i 0 (entries_in b.size) → not (eqb (own_entries bytes b i) 1) ≡ true
+  unfolding own_entries entry_numbers
+  none_own none = rw (count_none (has_index bytes b i) 0 (entries_in b.size) (λ k l. from_0 k (none k (omega arith) l)))
+
+  module _ {own : ℕ} (first : FirstEntry bytes b i 0 own) where
     before : NoneOf (has_index bytes b i) 0 own
     before k l = from_0 k (first.skipped k (omega arith) l)
 
-    pub none_own : own ≡ entries_in b.size → not (eqb (own_entries bytes b i) 1) ≡ true
+    own_has : has_index bytes b i (0 + own) ≡ true
+    own_has = from_0 own first.has
+
+    pub own_at : entry_at b own ≡ hash_entry_in bytes b i
+    unfolding hash_entry_in entry_numbers Option-elim
+    own_at =
+        rw (found (has_index bytes b i) 0 (entries_in b.size) own before first.listed own_has)
+        (ap (entry_at b) {x = own} {y = 0 + own} (omega arith))
+
+    two_own : {other : ℕ} → FirstEntry bytes b i (own + 1) other → not (eqb (own_entries bytes b i) 1) ≡ true
     unfolding own_entries entry_numbers
-    none_own e = rw (count_none (has_index bytes b i) 0 (entries_in b.size) (λ k l. before k (omega arith)))
+    two_own {other} next =
+        let there = from_0 other next.has in
+        let two =
+        count_two (has_index bytes b i) 0 (entries_in b.size) own other (omega (arith, next.after)) next.listed own_has there in
+        rw (ne_eqb (own_entries bytes b i) 1 (λ e. omega (arith, two, e)))
 
-    module _ (l : own < entries_in b.size) where
-      own_has : has_index bytes b i (0 + own) ≡ true
-      own_has = from_0 own (first.found l).1
+    one_own : NoEntry bytes b i (own + 1) (entries_in b.size) → not (eqb (own_entries bytes b i) 1) ≡ false
+    unfolding own_entries entry_numbers
+    one_own none =
+        rw (count_one (has_index bytes b i) 0 (entries_in b.size) own first.listed before own_has
+        (λ k h m. from_0 k (none k (omega arith) m)))
 
-      pub own_at : entry_at b own ≡ hash_entry_in bytes b i
-      unfolding hash_entry_in entry_numbers Option-elim
-      own_at =
-          rw (found (has_index bytes b i) 0 (entries_in b.size) own before l own_has)
-          (ap (entry_at b) {x = own} {y = 0 + own} (omega arith))
-
-      module _ {other : ℕ} (next : NextEntry bytes b i (own + 1) other) where
-        pub two_own : other < entries_in b.size → not (eqb (own_entries bytes b i) 1) ≡ true
-        unfolding own_entries entry_numbers
-        two_own m =
-            let more = next.found m in
-            let there = from_0 other more.1 in
-            let two = count_two (has_index bytes b i) 0 (entries_in b.size) own other (omega (arith, more.0)) m own_has there in
-            rw (ne_eqb (own_entries bytes b i) 1 (λ e. omega (arith, two, e)))
-
-        pub one_own : other ≡ entries_in b.size → not (eqb (own_entries bytes b i) 1) ≡ false
-        unfolding own_entries entry_numbers
-        one_own e =
-            rw (count_one (has_index bytes b i) 0 (entries_in b.size) own l before own_has
-            (λ k h m. from_0 k (next.skipped k (omega arith) (omega arith))))
+    -- what the second search says, which goes on behind the first
+    pub own_counted : (next : Option ℕ) → NextEntry bytes b i (own + 1) next → not (eqb (own_entries bytes b i) 1) ≡ is_some next
+    own_counted None none = one_own none
+    own_counted (Some k) next = two_own next

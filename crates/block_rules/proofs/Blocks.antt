@@ -6,6 +6,8 @@ use mathlib.Core.Bool.{Bool, true, false}
 use mathlib.Core.List.{List, [], ◌∷◌}
 use mathlib.Core.Path.{◌≡◌, refl, sym, ◌∙◌, ap}
 use lib.ListN.{length, get_or, set, length-set}
+use Rattle.std.specs.Prelude.{Ok, Err}
+use Rattle.refusals.specs.declared.Rule.{Rule}
 use Rattle.pdi_spec.specs.Answers.{hash_entry}
 use Rattle.pdi_spec.specs.File.{File, partitions, header, hash_block}
 use Rattle.pdi_spec.specs.HashBlock.{hash_entry_in}
@@ -13,14 +15,11 @@ use Rattle.pdi_spec.specs.Headers.{Block, Header}
 use Rattle.pdi_spec.specs.Limits.{most_partitions}
 use Rattle.pdi_spec.specs.RuleList.{rule17}
 use Rattle.pdi_spec.specs.Rules.{hash_block_wrong}
-use Rattle.pdi_spec.specs.Verdict.{each_and_table, verdict}
+use Rattle.pdi_spec.specs.Verdict.{accepted, refused, each_and_table, verdict}
 use Rattle.pdi_spec.proofs.Laws.Lists.{stored_more}
 use Rattle.pdi_spec.proofs.Laws.Searches.{NoneOf, none_yet, one_more, found, not_found}
 use Rattle.chain_rules.proofs.Verdicts.{one_broken, one_kept}
-use Rattle.chain_rules.specs.Answers.{answer_of}
-use Rattle.chain_rules.specs.declared.Answer.{Answer}
 use Rattle.block_rules.specs.Entries.{block_answer, block_answer_of}
-use Rattle.block_rules.specs.declared.entries.BlockAnswer.{BlockAnswer}
 
 -- ---- one block of the file
 
@@ -29,20 +28,20 @@ unfolding hash_block
 own_block f i e = rw add-one (ap (λ (h : Header). h.block) (rw add-one at e))
 
 module _ (f : File) (p : ℕ) {b : Block} (own : b ≡ hash_block f p) where
-  pub block_refused : block_answer f.bytes p b ≡ BlockAnswer.Refused → hash_block_wrong f p ≡ true
+  pub block_refused : {rule : Rule} → block_answer f.bytes p b ≡ Err rule → (hash_block_wrong f p ≡ true) × (rule ≡ Rule.HashBlockWrong)
   unfolding block_answer block_answer_of hash_block_wrong
-  block_refused e = rw (← own) (go _ e)
+  block_refused {rule} e = rw (← own) (go _ e)
     where
-      go : (t : Bool) → block_answer_of t (hash_entry_in f.bytes b p) ≡ BlockAnswer.Refused → t ≡ true
-      go true q = refl
+      go : (t : Bool) → block_answer_of t (hash_entry_in f.bytes b p) ≡ Err rule → (t ≡ true) × (rule ≡ Rule.HashBlockWrong)
+      go true q = (refl, cc)
       go false q = let z : ◌≡◌ {A = ℕ} 0 1 = cc in absurd (omega arith)
 
-  pub block_checked : {entry : ℕ} → block_answer f.bytes p b ≡ BlockAnswer.Checked entry
+  pub block_checked : {entry : ℕ} → block_answer f.bytes p b ≡ Ok entry
       → (hash_block_wrong f p ≡ false) × (entry ≡ hash_entry f p)
   unfolding block_answer block_answer_of hash_block_wrong hash_entry
   block_checked {entry} e = rw (← own) (go _ e)
     where
-      go : (t : Bool) → block_answer_of t (hash_entry_in f.bytes b p) ≡ BlockAnswer.Checked entry
+      go : (t : Bool) → block_answer_of t (hash_entry_in f.bytes b p) ≡ Ok entry
           → (t ≡ false) × (entry ≡ hash_entry_in f.bytes b p)
       go true q = let z : ◌≡◌ {A = ℕ} 0 1 = cc in absurd (omega arith)
       go false q = (refl, cc)
@@ -56,7 +55,7 @@ pub record BlocksSoFar (f : File) (entries : List ℕ) (i : ℕ) : Type 0 where
   pub room : length entries ≡ most_partitions
 
 module _ (f : File) where
-  pub table_broken : hash_block_wrong f 0 ≡ true → Answer.Refused 17 0 ≡ answer_of (verdict (rule17 ∷ []) f)
+  pub table_broken : hash_block_wrong f 0 ≡ true → refused 17 0 ≡ verdict (rule17 ∷ []) f
   unfolding each_and_table
   table_broken e =
       one_broken rule17 f (found (hash_block_wrong f) 0 (suc (partitions f)) 0 (none_yet (hash_block_wrong f) 0) (omega arith) e)
@@ -70,17 +69,17 @@ module _ (f : File) where
       }
 
   module _ {entries : List ℕ} {i : ℕ} (so_far : BlocksSoFar f entries i) where
-    pub kept : i ≡ partitions f → Answer.Kept ≡ answer_of (verdict (rule17 ∷ []) f)
+    pub kept : i ≡ partitions f → accepted ≡ verdict (rule17 ∷ []) f
     unfolding each_and_table
     kept e = one_kept rule17 f (not_found (hash_block_wrong f) 0 (suc (partitions f)) (λ k l. so_far.none k (omega arith)))
 
     same : 0 + (i + 1) ≡ i + 1
     same = omega arith
 
-    pub broken : i < partitions f → hash_block_wrong f (i + 1) ≡ true → Answer.Refused 17 (i + 1) ≡ answer_of (verdict (rule17 ∷ []) f)
+    pub broken : i < partitions f → hash_block_wrong f (i + 1) ≡ true → refused 17 (i + 1) ≡ verdict (rule17 ∷ []) f
     unfolding each_and_table
     broken l e =
-        ap (Answer.Refused 17) (sym same)
+        ap (refused 17) (sym same)
         ∙ one_broken rule17 f
         (found (hash_block_wrong f) 0 (suc (partitions f)) (i + 1) so_far.none (omega arith) (ap (hash_block_wrong f) same ∙ e))
 

@@ -5,15 +5,7 @@ ghost use Rattle.headers.specs.Headers.{block_of};
 ghost use Rattle.block_rules.specs.Entries.{NextEntry, block_answer};
 
 use headers::{Block, HashEntry, MOST_PARTITIONS};
-
-// What rule 17 says of one block.
-#[derive(Clone, Copy)]
-pub enum BlockAnswer {
-    // It is bad.
-    Refused,
-    // The byte offset of its own entry, 0 where there is no block.
-    Checked(usize),
-}
+use refusals::Rule;
 
 // The most entries: one for the meta header, and one for each of the most partitions.
 const MOST_ENTRIES: u32 = (MOST_PARTITIONS as u32) + 1;
@@ -48,28 +40,26 @@ fn has_index(image: &[u8], b: Block, i: usize, k: u32) -> bool
     entry.index as usize == i
 }
 
-// The first entry from `from` on with the index i, of a block inside the image; the number of entries where there is none.
-fn next_entry(image: &[u8], b: Block, i: usize, from: u32) -> u32
+// The first entry from `from` on with the index i, of a block inside the image.
+fn next_entry(image: &[u8], b: Block, i: usize, from: u32) -> Option<u32>
     requires { 4 * b.offset + b.size ≤ length image.now }
     ensures { NextEntry image.now (block_of b) i from result }
 {
-    let n = entries_in(b);
-    let mut k = from;
-    while k < n {
+    for k in from..entries_in(b) {
         if has_index(image, b, i, k) {
-            return k;
+            return Some(k);
         }
-        k += 1;
     }
-    n
+    None
 }
 
-// Rule 17, of the block of index i: exactly one of its entries has that index. Only a block that lies well is searched.
-pub(crate) fn check_block(image: &[u8], i: usize, b: Block) -> BlockAnswer
+// Rule 17, of the block of index i: exactly one of its entries has that index, and its byte offset is answered, or 0 where there is no
+// block. Only a block that lies well is searched.
+pub(crate) fn check_block(image: &[u8], i: usize, b: Block) -> Result<usize, Rule>
     ensures { result ≡ block_answer image.now i (block_of b) }
 {
     if b.is_absent() {
-        return BlockAnswer::Checked(0);
+        return Ok(0);
     }
     let n = entries_in(b);
     if (b.size == 0)
@@ -78,14 +68,13 @@ pub(crate) fn check_block(image: &[u8], i: usize, b: Block) -> BlockAnswer
         | (b.size as u64 != size_of_entries(n))
         | ranges::past(image.len() as u64, b.range())
     {
-        return BlockAnswer::Refused;
+        return Err(Rule::HashBlockWrong);
     }
-    let own = next_entry(image, b, i, 0);
-    if own == n {
-        return BlockAnswer::Refused;
+    let Some(own) = next_entry(image, b, i, 0) else {
+        return Err(Rule::HashBlockWrong);
+    };
+    if next_entry(image, b, i, own + 1).is_some() {
+        return Err(Rule::HashBlockWrong);
     }
-    if next_entry(image, b, i, own + 1) != n {
-        return BlockAnswer::Refused;
-    }
-    BlockAnswer::Checked(entry_at(b, own))
+    Ok(entry_at(b, own))
 }

@@ -1,36 +1,34 @@
 // Rule 17 of the table's block, and then of each partition's.
-ghost use Rattle.std.specs.Prelude.{◌≡◌, length};
-ghost use Rattle.pdi_spec.specs.Limits.{most_partitions};
-ghost use Rattle.chain_rules.specs.Chain.{Chain};
-ghost use Rattle.block_rules.specs.Blocks.{Blocks};
+ghost use Rattle.std.specs.Prelude.{[], ◌∷◌, ◌≡◌, IfOk};
+ghost use Rattle.pdi_spec.specs.RuleList.{rule17};
+ghost use Rattle.pdi_spec.specs.Verdict.{verdict};
+ghost use Rattle.refusals.specs.Refusals.{outcome_of};
+ghost use Rattle.chain_rules.specs.File.{file_of_chain};
+ghost use Rattle.block_rules.specs.Blocks.{Entries};
 
-use crate::entries::{BlockAnswer, check_block};
-use chain_rules::{Answer, header_at};
-use headers::{MOST_PARTITIONS, TableHeader};
+use crate::entries::check_block;
+use chain_rules::Chain;
+use headers::MOST_PARTITIONS;
+use refusals::{Refusal, Rule};
 
-// The table's own block has index 0, partition p's index p. Stores where each partition's own entry lies.
-pub fn check_blocks(
-    image: &[u8],
-    table: TableHeader,
-    offsets: &[usize; MOST_PARTITIONS],
-    entries: &mut [usize; MOST_PARTITIONS],
-) -> Answer
-    requires chain { Chain image.now table offsets.now }
-    requires room { length entries.old ≡ most_partitions }
-    ensures { Blocks image.now table entries.new result }
+// The byte offset of each partition's own entry, 0 where it has no block. The table's own block has index 0, partition p's index p.
+pub fn check_blocks(chain: &Chain) -> Result<[usize; MOST_PARTITIONS], Refusal>
+    ensures told { outcome_of result ≡ verdict (rule17 ∷ []) (file_of_chain chain.now) }
+    ensures entries { IfOk result (λ entries. Entries chain.now.image.now chain.now.table entries) }
 {
-    let BlockAnswer::Checked(_) = check_block(image, 0, table.block) else {
-        return Answer::Refused(17, 0);
-    };
-    let n = table.partitions as usize;
-    let mut i: usize = 0;
-    while i < n {
-        let h = header_at(image, table, offsets, i);
-        let BlockAnswer::Checked(entry) = check_block(image, i + 1, h.block) else {
-            return Answer::Refused(17, i as u64 + 1);
+    let image = chain.image;
+    let table = chain.table;
+    let mut entries = [0usize; MOST_PARTITIONS];
+    check_block(image, 0, table.block)?;
+    for i in 0..table.partitions as usize {
+        let h = chain.header(i);
+        let Ok(entry) = check_block(image, i + 1, h.block) else {
+            return Err(Refusal {
+                rule: Rule::HashBlockWrong,
+                partition: i as u32 + 1,
+            });
         };
         entries[i] = entry;
-        i += 1;
     }
-    Answer::Kept
+    Ok(entries)
 }

@@ -4,18 +4,16 @@ use native.Mathlib.Omega.{arith}
 use mathlib.Core.List.{List, [], ◌∷◌}
 use mathlib.Core.Path.{◌≡◌, sym, ◌∙◌, ap}
 use lib.ListN.{length, get_or, set, length-set}
+use Rattle.std.specs.Prelude.{None, Some}
 use Rattle.pdi_spec.specs.File.{File, partitions, partition_numbers, header_at}
 use Rattle.pdi_spec.specs.Headers.{header_size}
 use Rattle.pdi_spec.specs.Limits.{most_partitions}
 use Rattle.pdi_spec.specs.RuleList.{rule10}
 use Rattle.pdi_spec.specs.Rules.{chain_broken}
-use Rattle.pdi_spec.specs.Verdict.{each, verdict}
+use Rattle.pdi_spec.specs.Verdict.{accepted, refused, each, verdict}
 use Rattle.pdi_spec.proofs.Laws.Lists.{stored_more}
 use Rattle.pdi_spec.proofs.Laws.Searches.{NoneOf, none_yet, one_more, found, not_found}
-use Rattle.chain_rules.specs.Answers.{answer_of}
 use Rattle.chain_rules.specs.Chain.{link_at}
-use Rattle.chain_rules.specs.declared.Answer.{Answer}
-use Rattle.chain_rules.specs.declared.chain.Link.{Link}
 use Rattle.chain_rules.proofs.Links.{next_at, link_broken, link_next, header_inside}
 use Rattle.chain_rules.proofs.Verdicts.{one_broken, one_kept}
 
@@ -35,19 +33,19 @@ starts f offsets e l =
     record { none = none_yet (chain_broken f) 1; stored = λ k h. absurd (omega arith); next = e; room = l }
 
 module _ (f : File) {offsets : List ℕ} {at i : ℕ} (so_far : ChainSoFar f offsets at i) where
-  pub kept : i ≡ partitions f → Answer.Kept ≡ answer_of (verdict (rule10 ∷ []) f)
+  pub kept : i ≡ partitions f → accepted ≡ verdict (rule10 ∷ []) f
   unfolding each partition_numbers
   kept e = one_kept rule10 f (not_found (chain_broken f) 1 (partitions f) (λ k l. so_far.none k (omega arith)))
 
-  pub broken : i < partitions f → link_at f (i + 1) ≡ Link.Broken → Answer.Refused 10 (i + 1) ≡ answer_of (verdict (rule10 ∷ []) f)
+  pub broken : i < partitions f → link_at f (i + 1) ≡ None → refused 10 (i + 1) ≡ verdict (rule10 ∷ []) f
   unfolding each partition_numbers
   broken l e =
       let same : 1 + i ≡ i + 1 = omega arith in
-      ap (Answer.Refused 10) (sym same)
+      ap (refused 10) (sym same)
       ∙ one_broken rule10 f
       (found (chain_broken f) 1 (partitions f) i so_far.none l (ap (chain_broken f) same ∙ link_broken f (i + 1) e))
 
-  pub onward : i < most_partitions → {next : ℕ} → link_at f (i + 1) ≡ Link.Next next → ChainSoFar f (set offsets i at) (4 * next) (i + 1)
+  pub onward : i < most_partitions → {next : ℕ} → link_at f (i + 1) ≡ Some next → ChainSoFar f (set offsets i at) (4 * next) (i + 1)
   onward l e =
       let t = link_next f (i + 1) e in
       let same : 1 + i ≡ i + 1 = omega arith in

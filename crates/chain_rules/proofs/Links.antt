@@ -4,6 +4,7 @@ use native.Mathlib.Numerals.{add-one}
 use native.Mathlib.Omega.{arith}
 use mathlib.Core.Bool.{Bool, true, false, not, ◌&&◌, ◌||◌, or-false}
 use mathlib.Core.Path.{◌≡◌, refl}
+use Rattle.std.specs.Prelude.{None, Some}
 use borrow.Author.Tests.{ltb-false}
 use lib.Dec.{eqb, ltb}
 use lib.ListN.{length}
@@ -14,7 +15,6 @@ use Rattle.pdi_spec.specs.Ranges.{end_of, past}
 use Rattle.pdi_spec.specs.Rules.{chain_broken}
 use Rattle.pdi_spec.proofs.Laws.Tests.{false_at}
 use Rattle.chain_rules.specs.Chain.{link_of, link_at}
-use Rattle.chain_rules.specs.declared.chain.Link.{Link}
 
 pub next_at : (f : File) (i : ℕ) → header_at f (i + 1 + 1) ≡ 4 * (header f (i + 1)).next
 unfolding header_at header
@@ -25,7 +25,7 @@ unfolding past end_of
 ends_inside limit at e = ltb-false limit (at + header_size) e
 
 module _ (f : File) (p : ℕ) {at : ℕ} (place : at ≡ header_at f p) where
-  pub outside : past (length f.bytes) (record { start = at; size = header_size }) ≡ true → Link.Broken ≡ link_at f p
+  pub outside : past (length f.bytes) (record { start = at; size = header_size }) ≡ true → None ≡ link_at f p
   unfolding link_at link_of chain_broken any_true header header_from
   outside e = let e' = rw place at e in rw e' refl
 
@@ -45,19 +45,19 @@ module _ (f : File) (p : ℕ) {at : ℕ} (place : at ≡ header_at f p) where
 -- ---- what a link tells
 
 module _ (f : File) (p : ℕ) where
-  pub link_broken : link_at f p ≡ Link.Broken → chain_broken f p ≡ true
+  pub link_broken : link_at f p ≡ None → chain_broken f p ≡ true
   unfolding link_at link_of
   link_broken e = go (chain_broken f p) e
     where
-      go : (b : Bool) → link_of b (header f p).next ≡ Link.Broken → b ≡ true
+      go : (b : Bool) → link_of b (header f p).next ≡ None → b ≡ true
       go true q = refl
       go false q = let z : ◌≡◌ {A = ℕ} 0 1 = cc in absurd (omega arith)
 
-  pub link_next : {next : ℕ} → link_at f p ≡ Link.Next next → (chain_broken f p ≡ false) × (next ≡ (header f p).next)
+  pub link_next : {next : ℕ} → link_at f p ≡ Some next → (chain_broken f p ≡ false) × (next ≡ (header f p).next)
   unfolding link_at link_of
   link_next {next} e = go (chain_broken f p) e
     where
-      go : (b : Bool) → link_of b (header f p).next ≡ Link.Next next → (b ≡ false) × (next ≡ (header f p).next)
+      go : (b : Bool) → link_of b (header f p).next ≡ Some next → (b ≡ false) × (next ≡ (header f p).next)
       go true q = let z : ◌≡◌ {A = ℕ} 0 1 = cc in absurd (omega arith)
       go false q = (refl, cc)
 

@@ -1,18 +1,12 @@
--- The byte offsets of a file's partition headers, as rule 10's stage hands them on, and what one link of the chain answers. Assumes
--- nothing.
-use Rattle.std.specs.Prelude.{ℕ, ◌+◌, ◌≤◌, ◌<◌, Bool, true, false, List, [], ◌∷◌, ◌≡◌, length, get_or}
+-- The byte offsets of a file's partition headers, as rule 10's stage hands them on, and what one link of the chain says. Assumes nothing.
+use Rattle.std.specs.Prelude.{ℕ, ◌+◌, ◌≤◌, ◌<◌, Bool, true, false, List, Option, None, Some, ◌≡◌, length, get_or}
 use Rattle.pdi_spec.specs.Answers.{asked}
 use Rattle.pdi_spec.specs.Limits.{most_partitions}
 use Rattle.pdi_spec.specs.Headers.{header_size}
 use Rattle.pdi_spec.specs.File.{File, table, header, header_at}
-use Rattle.pdi_spec.specs.RuleList.{rule10}
 use Rattle.pdi_spec.specs.Rules.{chain_broken}
-use Rattle.pdi_spec.specs.Verdict.{verdict}
 use Rattle.headers.specs.Headers.{table_of}
 use Rattle.headers.specs.declared.table.TableHeader.{TableHeader}
-use Rattle.chain_rules.specs.Answers.{answer_of}
-use Rattle.chain_rules.specs.declared.Answer.{Answer}
-use Rattle.chain_rules.specs.declared.chain.Link.{Link}
 
 -- the file of an image and a table that was read in it
 abbrev pub file_of : List ℕ → TableHeader → File
@@ -23,21 +17,16 @@ abbrev pub IsTable : List ℕ → TableHeader → Type 0
 IsTable bytes t = table_of t ≡ table (file_of bytes t)
 
 -- t is the image's table, and these are the offsets of its headers, each header all inside the image; partitions are counted from 1
-pub record Chain (bytes : List ℕ) (t : TableHeader) (offsets : List ℕ) : Type 0 where
+pub record IsChain (bytes : List ℕ) (t : TableHeader) (offsets : List ℕ) : Type 0 where
   pub own : IsTable bytes t
   pub few : t.partitions ≤ most_partitions
   pub along : (i : ℕ) → i < t.partitions → get_or offsets i 0 ≡ header_at (file_of bytes t) (i + 1)
   pub inside : (i : ℕ) → i < t.partitions → get_or offsets i 0 + header_size ≤ length bytes
 
--- what rule 10's stage promises: its answer, and the chain where the rule is kept
-pub record Chained (bytes : List ℕ) (t : TableHeader) (offsets : List ℕ) (r : Answer) : Type 0 where
-  pub told : r ≡ answer_of (verdict (rule10 ∷ []) (file_of bytes t))
-  pub chain : r ≡ Answer.Kept → Chain bytes t offsets
-
 -- the link at partition p: broken, or the next header's word offset
-unfoldable pub link_of : Bool → ℕ → Link
-link_of true next = Link.Broken
-link_of false next = Link.Next next
+unfoldable pub link_of : Bool → ℕ → Option ℕ
+link_of true next = None
+link_of false next = Some next
 
-unfoldable pub link_at : File → ℕ → Link
+unfoldable pub link_at : File → ℕ → Option ℕ
 link_at f p = link_of (chain_broken f p) (header f p).next

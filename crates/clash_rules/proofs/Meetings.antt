@@ -19,7 +19,7 @@ use Rattle.pdi_spec.specs.Ranges.{Range, end_of, overlap, meet, loads, load_rang
 use Rattle.pdi_spec.specs.RuleList.{rule19}
 use Rattle.pdi_spec.specs.Rules.{load_ranges_clash}
 use Rattle.pdi_spec.specs.Verdict.{each, verdict, accepted, refused}
-use Rattle.range_lists.specs.Parts.{load_of, part_of}
+use Rattle.range_lists.specs.Parts.{load_of}
 use Rattle.pairs.proofs.Following.{apart}
 
 abbrev none : Range
@@ -28,13 +28,13 @@ none = record { start = 0; size = 0 }
 module _ (f : File) where
   -- the load range of partition p, and whether it meets that of an earlier one
   abbrev pub load : ℕ → Range
-  load p = part_of 3 (header f p)
+  load p = load_of (header f p)
 
   abbrev earlier : ℕ → ℕ → Bool
   earlier p e = loads f e && meet (load_range f p) (load_range f e)
 
   pair : (p e : ℕ) → overlap (load p) (load e) ≡ (loads f p && earlier p e)
-  unfolding part_of load_of loads load_range meet end_of
+  unfolding load_of loads load_range meet end_of
   pair p e = go (has_load_address (header f p).attributes) (has_load_address (header f e).attributes)
     where
       go : (b d : Bool) → overlap (cond b (load_range_of (header f p)).addresses none) (cond d (load_range_of (header f e)).addresses none)

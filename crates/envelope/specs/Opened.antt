@@ -1,7 +1,8 @@
--- What `open` answers, by cases of what the input holds; the image itself is what follows the first 9 bytes. Assumes nothing.
+-- What `open` answers, by cases of what the input holds: nothing, or the image with its table place. Assumes nothing.
+use Rattle.std.specs.Prelude.{Option, None, Some}
 use Rattle.pdi_spec.specs.Envelope.{Envelope, bad, holds}
-use Rattle.envelope.specs.declared.Opened.{Opened}
+use Rattle.pdi_spec.specs.File.{File}
 
-unfoldable pub opened_as : Envelope → Opened
-opened_as bad = Opened.Bad
-opened_as (holds f) = Opened.Holds f.place
+unfoldable pub opened_as : Envelope → Option File
+opened_as bad = None
+opened_as (holds f) = Some f

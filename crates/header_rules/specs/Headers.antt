@@ -1,6 +1,6 @@
 -- One header and the rules of a list, and the lowest rule that the first headers break: what the stage of rules 11 to 16 keeps while it
 -- goes along the chain. Assumes nothing.
-use Rattle.std.specs.Prelude.{ℕ, cond, List, [], ◌∷◌, ◌≡◌, ltb}
+use Rattle.std.specs.Prelude.{ℕ, cond, List, [], ◌∷◌, ◌≡◌, ltb, Result, Ok, Err, IfOk}
 use Rattle.std.proofs.Math.Option.{Option, none, some, Option-elim}
 use Rattle.pdi_spec.specs.Lists.{numbers, first_of}
 use Rattle.pdi_spec.specs.File.{File, header}
@@ -8,7 +8,8 @@ use Rattle.pdi_spec.specs.RuleList.{header_rules}
 use Rattle.pdi_spec.specs.Verdict.{Rule, Outcome, accepted, refused, first_broken}
 use Rattle.headers.specs.Headers.{header_of}
 use Rattle.headers.specs.declared.partition.PartitionHeader.{PartitionHeader}
-use Rattle.header_rules.specs.declared.stage.HeaderAnswer.{HeaderAnswer}
+use Rattle.refusals.specs.Refusals.{number_of}
+use Rattle.refusals.specs.declared.Rule as Rule
 
 -- the verdict of rules that are tried at each partition, when only the first n partitions are looked at
 unfoldable pub verdict_up_to : List Rule → File → ℕ → Outcome
@@ -23,11 +24,11 @@ lower_of o none p = o
 lower_of accepted (some k) p = refused k p
 lower_of (refused m q) (some k) p = cond (ltb k m) (refused k p) (refused m q)
 
-unfoldable pub number_in : HeaderAnswer → Option ℕ
-number_in (HeaderAnswer.Refused k) = some k
-number_in (HeaderAnswer.Checked h) = none
+abbrev pub number_in : Result PartitionHeader Rule.Rule → Option ℕ
+number_in (Ok h) = none
+number_in (Err rule) = some (number_of rule)
 
 -- what is said of header p: the first of rules 11 to 16 that it breaks, or the header itself
-pub record HeaderTold (f : File) (p : ℕ) (r : HeaderAnswer) : Type 0 where
+pub record HeaderTold (f : File) (p : ℕ) (r : Result PartitionHeader Rule.Rule) : Type 0 where
   pub number : number_in r ≡ first_broken header_rules f p
-  pub own : (h : PartitionHeader) → r ≡ HeaderAnswer.Checked h → header_of h ≡ header f p
+  pub own : IfOk r (λ (h : PartitionHeader). header_of h ≡ header f p)

@@ -3,85 +3,72 @@
 ghost use Rattle.std.specs.Prelude.{◌+◌, ◌<◌, ◌≡◌};
 ghost use Rattle.pdi_spec.specs.RuleList.{header_rules};
 ghost use Rattle.pdi_spec.specs.Verdict.{verdict};
-ghost use Rattle.chain_rules.specs.Answers.{answer_of, outcome_of};
-ghost use Rattle.chain_rules.specs.Chain.{Chain, file_of};
+ghost use Rattle.refusals.specs.Refusals.{outcome_of};
+ghost use Rattle.chain_rules.specs.File.{file_of_chain};
 ghost use Rattle.header_rules.specs.Headers.{HeaderTold, lower_of, number_in};
 
 use crate::conditions;
-use chain_rules::{Answer, header_at};
-use headers::{MOST_PARTITIONS, PartitionHeader, TableHeader};
+use chain_rules::Chain;
+use headers::PartitionHeader;
+use refusals::{Refusal, Rule};
 
-// What rules 11 to 16 say of one header.
-#[derive(Clone, Copy)]
-pub enum HeaderAnswer {
-    // The number of the lowest rule that it breaks.
-    Refused(u64),
-    // The header, which keeps them all.
-    Checked(PartitionHeader),
-}
-
-// The tests run in the order of their numbers, so the first that is true has the lowest.
-fn check_header(
-    image: &[u8],
-    table: TableHeader,
-    offsets: &[usize; MOST_PARTITIONS],
-    i: usize,
-) -> HeaderAnswer
-    requires chain { Chain image.now table offsets.now }
-    requires counted { i < table.partitions }
-    ensures { HeaderTold (file_of image.now table) (i + 1) result }
+// The header of partition i + 1, or the lowest rule that it breaks: the tests run in the order of their numbers, so the first that is true
+// has the lowest.
+fn check_header(chain: &Chain, i: usize) -> Result<PartitionHeader, Rule>
+    requires { i < chain.now.table.partitions }
+    ensures { HeaderTold (file_of_chain chain.now) (i + 1) result }
 {
-    let h = header_at(image, table, offsets, i);
+    let image = chain.image;
+    let h = chain.header(i);
     if conditions::header_checksum_bad(image, h) {
-        return HeaderAnswer::Refused(11);
+        return Err(Rule::HeaderChecksumBad);
     }
     if conditions::attributes_bad(h) {
-        return HeaderAnswer::Refused(12);
+        return Err(Rule::AttributesBad);
     }
     if conditions::key_unknown(h) {
-        return HeaderAnswer::Refused(13);
+        return Err(Rule::KeyUnknown);
     }
     if conditions::lengths_bad(h) {
-        return HeaderAnswer::Refused(14);
+        return Err(Rule::LengthsBad);
     }
     if conditions::span_outside(image, h) {
-        return HeaderAnswer::Refused(15);
+        return Err(Rule::SpanOutside);
     }
     if conditions::load_address_bad(h) {
-        return HeaderAnswer::Refused(16);
+        return Err(Rule::LoadAddressBad);
     }
-    HeaderAnswer::Checked(h)
+    Ok(h)
 }
 
-// The lower of what the earlier headers and partition p's header say. A checked header leaves the answer as it is.
-fn lower(answer: Answer, found: HeaderAnswer, p: u64) -> Answer
-    ensures { outcome_of result ≡ lower_of (outcome_of answer) (number_in found) p }
+// The lower of what the earlier headers and partition p's header say; of equal numbers the earlier partition stays.
+fn lower(
+    earlier: Result<(), Refusal>,
+    found: Result<PartitionHeader, Rule>,
+    p: u32,
+) -> Result<(), Refusal>
+    ensures { outcome_of result ≡ lower_of (outcome_of earlier) (number_in found) p }
 {
-    let HeaderAnswer::Refused(number) = found else {
-        return answer;
+    let Err(rule) = found else {
+        return earlier;
     };
-    let Answer::Refused(lowest, q) = answer else {
-        return Answer::Refused(number, p);
+    let Err(lowest) = earlier else {
+        return Err(Refusal { rule, partition: p });
     };
-    if number < lowest {
-        Answer::Refused(number, p)
+    if rule.number() < lowest.rule.number() {
+        Err(Refusal { rule, partition: p })
     } else {
-        Answer::Refused(lowest, q)
+        earlier
     }
 }
 
 // Rules 11 to 16 of every header.
-pub fn check_headers(image: &[u8], table: TableHeader, offsets: &[usize; MOST_PARTITIONS]) -> Answer
-    requires { Chain image.now table offsets.now }
-    ensures { result ≡ answer_of (verdict header_rules (file_of image.now table)) }
+pub fn check_headers(chain: &Chain) -> Result<(), Refusal>
+    ensures { outcome_of result ≡ verdict header_rules (file_of_chain chain.now) }
 {
-    let n = table.partitions as usize;
-    let mut answer = Answer::Kept;
-    let mut i: usize = 0;
-    while i < n {
-        let found = check_header(image, table, offsets, i);
-        answer = lower(answer, found, i as u64 + 1);
-        i += 1;
+    let mut lowest = Ok(());
+    for i in 0..chain.table.partitions as usize {
+        lowest = lower(lowest, check_header(chain, i), i as u32 + 1);
     }
-    answer
+    lowest
 }

@@ -40,25 +40,25 @@ pub struct TableHeader {
 
 // The three header sizes, in words.
 impl HeaderSizes {
-    // The table's.
+    // The table's, bits 7:0.
     pub fn table_words(self) -> u32
         ensures { result ≡ table_words_of self.word }
     {
-        self.word % 256
+        words::bits::<0, 8>(self.word)
     }
 
-    // An image header's.
+    // An image header's, bits 15:8.
     pub fn image_header_words(self) -> u32
         ensures { result ≡ image_header_words_of self.word }
     {
-        self.word / 0x100 % 256
+        words::bits::<8, 8>(self.word)
     }
 
-    // A partition header's.
+    // A partition header's, bits 23:16.
     pub fn partition_header_words(self) -> u32
         ensures { result ≡ partition_header_words_of self.word }
     {
-        self.word / 0x1_0000 % 256
+        words::bits::<16, 8>(self.word)
     }
 }
 

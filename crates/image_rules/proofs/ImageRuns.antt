@@ -7,6 +7,7 @@ use mathlib.Core.Path.{◌≡◌, refl, sym, ◌∙◌, ap, ap₂, subst}
 use borrow.Author.Count.{below_more}
 use borrow.Author.Tests.{ltb-false, le-ltb, le-leb, lt-leb}
 use lib.Dec.{eqb, ltb}
+use Rattle.std.specs.Prelude.{None, Some}
 use Rattle.pdi_spec.specs.File.{File, partitions, header_at}
 use Rattle.pdi_spec.specs.Headers.{Table, image_header_size, ImageHeader}
 use Rattle.pdi_spec.specs.Images.{images, image_header_at, image_header, owned_up_to, run_start}
@@ -18,7 +19,6 @@ use Rattle.pdi_spec.proofs.Laws.Tests.{never_both, or_both, false_at, equal_told
 use Rattle.headers.specs.declared.table.TableHeader.{TableHeader}
 use Rattle.chain_rules.specs.Chain.{IsTable, file_of}
 use Rattle.image_rules.specs.Runs.{run_broken, run_of, run_at}
-use Rattle.image_rules.specs.declared.runs.Run.{Run}
 
 -- ---- where the headers lie
 
@@ -47,7 +47,7 @@ module _ (f : File) (i : ℕ) {n : ℕ} (count_is : n ≡ partitions f) {owned :
   here = ap (owned_up_to f) {x = i + 1 - 1} {y = i} (omega arith) ∙ sym before
 
   -- the images before own all already
-  pub none_left : n ≤ owned → Run.Broken ≡ run_at f (i + 1)
+  pub none_left : n ≤ owned → None ≡ run_at f (i + 1)
   unfolding run_at run_of run_broken any_true
   none_left l = rw (here, ← count_is, le-leb n owned l) refl
 
@@ -67,19 +67,19 @@ module _ (f : File) (i : ℕ) {n : ℕ} (count_is : n ≡ partitions f) {owned :
         ap₂ run_of (sym t ∙ tests_are) end
 
 module _ (f : File) (i : ℕ) where
-  pub run_broken_lem : run_at f i ≡ Run.Broken → run_broken f i ≡ true
+  pub run_broken_lem : run_at f i ≡ None → run_broken f i ≡ true
   unfolding run_at run_of
   run_broken_lem e = go (run_broken f i) e
     where
-      go : (b : Bool) → run_of b (owned_up_to f i) ≡ Run.Broken → b ≡ true
+      go : (b : Bool) → run_of b (owned_up_to f i) ≡ None → b ≡ true
       go true q = refl
       go false q = let z : ◌≡◌ {A = ℕ} 0 1 = cc in absurd (omega arith)
 
-  pub run_ends : {end : ℕ} → run_at f i ≡ Run.Ends end → (run_broken f i ≡ false) × (end ≡ owned_up_to f i)
+  pub run_ends : {end : ℕ} → run_at f i ≡ Some end → (run_broken f i ≡ false) × (end ≡ owned_up_to f i)
   unfolding run_at run_of
   run_ends {end} e = go (run_broken f i) e
     where
-      go : (b : Bool) → run_of b (owned_up_to f i) ≡ Run.Ends end → (b ≡ false) × (end ≡ owned_up_to f i)
+      go : (b : Bool) → run_of b (owned_up_to f i) ≡ Some end → (b ≡ false) × (end ≡ owned_up_to f i)
       go true q = let z : ◌≡◌ {A = ℕ} 0 1 = cc in absurd (omega arith)
       go false q = (refl, cc)
 
@@ -120,12 +120,12 @@ unfolding owned_up_to
 none_yet f = record { each_run = λ k h. absurd (omega arith); owned_is = refl }
 
 module _ (f : File) {owned i : ℕ} (so_far : RunsSoFar f owned i) where
-  pub onward : {end : ℕ} → run_at f (i + 1) ≡ Run.Ends end → RunsSoFar f end (i + 1)
+  pub onward : {end : ℕ} → run_at f (i + 1) ≡ Some end → RunsSoFar f end (i + 1)
   onward e =
       let t = run_ends f (i + 1) e in
       record { each_run = below_more _ i so_far.each_run (run_owned f (i + 1) t.0); owned_is = t.1 }
 
-  pub broken : i < images f → run_at f (i + 1) ≡ Run.Broken → image_headers_bad f ≡ true
+  pub broken : i < images f → run_at f (i + 1) ≡ None → image_headers_bad f ≡ true
   broken l e =
       (runs_broken f).1 (λ r. never_both (run_broken_lem f (i + 1) e) (own_unbroken f (i + 1) r (omega arith) (omega arith)))
 

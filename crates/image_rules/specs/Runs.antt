@@ -1,5 +1,5 @@
 -- Where the image headers lie, and what one image's run of the chain answers. Assumes nothing.
-use Rattle.std.specs.Prelude.{ℕ, ◌+◌, ◌-◌, ◌≤◌, ◌<◌, Bool, true, false, List, [], ◌∷◌, leb, ltb, length}
+use Rattle.std.specs.Prelude.{ℕ, ◌+◌, ◌-◌, ◌≤◌, ◌<◌, Bool, true, false, List, [], ◌∷◌, leb, ltb, length, Option, None, Some}
 use Rattle.pdi_spec.specs.Limits.{most_images}
 use Rattle.pdi_spec.specs.Lists.{any_true}
 use Rattle.pdi_spec.specs.Headers.{image_header_size}
@@ -8,7 +8,6 @@ use Rattle.pdi_spec.specs.Images.{image_header_at, image_header, owned_up_to}
 use Rattle.pdi_spec.specs.ImageRules.{image_checksum_bad, run_misplaced}
 use Rattle.headers.specs.declared.table.TableHeader.{TableHeader}
 use Rattle.chain_rules.specs.Chain.{IsTable, file_of}
-use Rattle.image_rules.specs.declared.runs.Run.{Run}
 
 -- t is the image's table, and its image headers, at most 32, lie all inside the image; images are counted from 1
 pub record ImageHeadersInside (bytes : List ℕ) (t : TableHeader) : Type 0 where
@@ -26,9 +25,10 @@ run_broken f i =
     ∷ run_misplaced f i
     ∷ [])
 
-unfoldable pub run_of : Bool → ℕ → Run
-run_of true end = Run.Broken
-run_of false end = Run.Ends end
+-- one image's run: none where it is broken, or how many partitions it and the images before it own
+unfoldable pub run_of : Bool → ℕ → Option ℕ
+run_of true end = None
+run_of false end = Some end
 
-unfoldable pub run_at : File → ℕ → Run
+unfoldable pub run_at : File → ℕ → Option ℕ
 run_at f i = run_of (run_broken f i) (owned_up_to f i)

@@ -2,25 +2,19 @@
 ghost use Rattle.std.specs.Prelude.{◌≡◌};
 ghost use Rattle.pdi_spec.specs.Images.{owner_image};
 ghost use Rattle.chain_rules.specs.Chain.{file_of};
-ghost use Rattle.image_rules.specs.Runs.{ImageHeadersInside};
 
-use crate::runs::image_header_at;
-use headers::TableHeader;
+use crate::ImageHeaders;
 
 // The first image that owns p partitions together with those before it, counted from 1; 0 where none does. 32 counts fit in 64 bits.
-pub fn owner_of(image: &[u8], table: TableHeader, p: usize) -> u64
-    requires { ImageHeadersInside image.now table }
-    ensures { result ≡ owner_image (file_of image.now table) p }
+pub fn owner_of(headers: &ImageHeaders, p: usize) -> u64
+    ensures { result ≡ owner_image (file_of headers.now.image.now headers.now.table) p }
 {
-    let images = table.images as usize;
     let mut owned: usize = 0;
-    let mut i: usize = 0;
-    while i < images {
-        let h = image_header_at(image, table, i);
+    for i in 0..headers.table.images as usize {
+        let h = headers.header(i);
         owned += h.partitions as usize;
-        i += 1;
         if p <= owned {
-            return i as u64;
+            return i as u64 + 1;
         }
     }
     0

@@ -2,7 +2,7 @@
 // failed. What comes from the system no contract can say, so it is said of any reader whose bytes are known.
 #![tactic(auto)]
 
-ghost use Rattle.std.specs.Prelude.{◌≡◌, ◌+◌, ◌<◌, ◌≤◌, length, take, drop, IfOk};
+ghost use Rattle.std.specs.Prelude.{◌≡◌, ◌<◌, ◌≤◌, length, take, IfOk};
 ghost use Rattle.std.specs.Io.KnownBytes.{Consumes, IsAtEnd};
 
 use std::io;
@@ -15,17 +15,6 @@ pub fn large_buffer() -> [u8; 65_536]
     [0; 65_536]
 }
 
-// One read, behind the first n bytes.
-fn read_on<R: Read>(reader: &mut R, buffer: &mut [u8], n: usize) -> io::Result<usize>
-    requires { n ≤ length buffer.old }
-    ensures front { take n buffer.new ≡ take n buffer.old }
-    ensures within { IfOk result (λ more. n + more ≤ length buffer.new) }
-    ensures bytes { IfOk result (λ more. Consumes (R.remaining reader.old) (R.remaining reader.new) (take more (drop n buffer.new))) }
-    ensures end { IfOk result (λ more. more ≡ 0 → n < length buffer.new → IsAtEnd (R.remaining reader.new)) }
-{
-    reader.read(&mut buffer[n..])
-}
-
 // How many bytes came; they lie at the start of the buffer. Where they are fewer than it has, the input has no more.
 pub fn read_full<R: Read>(reader: &mut R, buffer: &mut [u8]) -> io::Result<usize>
     ensures within { IfOk result (λ n. n ≤ length buffer.new) }
@@ -34,7 +23,7 @@ pub fn read_full<R: Read>(reader: &mut R, buffer: &mut [u8]) -> io::Result<usize
 {
     let mut n: usize = 0;
     while n < buffer.len() {
-        let more = read_on(reader, buffer, n)?;
+        let more = reader.read(&mut buffer[n..])?;
         if more == 0 {
             return Ok(n);
         }

@@ -1,2 +1,2 @@
 pub mod Classes
-pub mod Search
+pub mod Places

@@ -1,5 +1,5 @@
 -- A word's place in a list, and the list of all key words in the document's order. Assumes nothing.
-use Rattle.std.specs.Prelude.{ℕ, suc, cond, List, [], ◌∷◌, ◌++◌, eqb}
+use Rattle.std.specs.Prelude.{ℕ, zero, suc, cond, Option, Some, None, List, [], ◌∷◌, ◌++◌, eqb}
 use Rattle.pdi_spec.specs.Keys.{common_keys, user_keys}
 
 -- the common ones first
@@ -14,3 +14,8 @@ place_from first (x ∷ xs) word = let rest = place_from (suc first) xs word in 
 -- counted from 1
 unfoldable pub place_in : List ℕ → ℕ → ℕ
 place_in list word = place_from 1 list word
+
+-- the place that was found, and none where that is 0
+unfoldable pub found : ℕ → Option ℕ
+found zero = None
+found (suc n) = Some (suc n)

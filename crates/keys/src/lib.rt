@@ -1,9 +1,10 @@
 // Key words: the document's table, a word's place in it, and the two classes that the rules ask for.
 #![tactic(auto)]
 
-ghost use Rattle.std.specs.Prelude.{◌≡◌};
+ghost use Rattle.std.specs.Prelude.{◌≡◌, take};
 ghost use Rattle.pdi_spec.specs.Keys.{zero_common_or_user, zero_or_common};
-ghost use Rattle.keys.specs.Places.{all_keys, place_in};
+ghost use Rattle.pdi_spec.specs.Lists.{is_in};
+ghost use Rattle.keys.specs.Places.{all_keys, place_in, found};
 
 // Document 01, "Key words", in its order: the 8 common ones, then the 14 user ones.
 const KEYS: [u32; 22] = [
@@ -15,38 +16,32 @@ const KEYS: [u32; 22] = [
 // How many of them, from the first on, are common.
 const COMMON: usize = 8;
 
-// The word's place in the table, counted from 1, or 0 where it isn't there.
-pub fn place_of(word: u32) -> usize
-    ensures { result ≡ place_in all_keys word }
+// The word's place in the table, counted from 1.
+pub fn place_of(word: u32) -> Option<usize>
+    ensures { result ≡ found (place_in all_keys word) }
 {
-    // A constant is laid out where it is named: here once, and not in each turn.
-    let keys = KEYS;
-    for i in 0..keys.len() {
-        if word == keys[i] {
-            return i + 1;
-        }
-    }
-    0
+    KEYS.iter().position(|key| word == *key).map(|i| i + 1)
+}
+
+// One of the first n keys.
+fn is_among_first(n: usize, word: u32) -> bool
+    ensures { result ≡ is_in word (take n all_keys) }
+{
+    place_of(word).is_some_and(|place| place <= n)
 }
 
 // 0 or a common key. 0, by far the commonest word, is tested before the table is searched.
+#[tactic(auto, using(crate::proofs::Classes::common_told))]
 pub fn zero_or_common(word: u32) -> bool
     ensures { result ≡ zero_or_common word }
 {
-    if word == 0 {
-        return true;
-    }
-    let place = place_of(word);
-    1 <= place && place <= COMMON
+    word == 0 || is_among_first(COMMON, word)
 }
 
 // 0, common or user.
+#[tactic(auto, using(crate::proofs::Classes::known_told))]
 pub fn zero_common_or_user(word: u32) -> bool
     ensures { result ≡ zero_common_or_user word }
 {
-    if word == 0 {
-        return true;
-    }
-    let place = place_of(word);
-    1 <= place
+    word == 0 || is_among_first(KEYS.len(), word)
 }

@@ -32,16 +32,10 @@ fn turns(image: &[u8], leaf: u8, n: usize) -> u32
     requires { 4 * 64 + boot_size ≤ length image.now }
 {
     let mut sum: u32 = 0;
-    let mut i: usize = 0;
-    while i < n {
-        sum = added(sum, one(image, leaf, 4 * (i % OFFSETS)));
-        i += 1;
+    for i in 0..n {
+        sum = sum.wrapping_add(one(image, leaf, 4 * (i % OFFSETS)));
     }
     sum
-}
-
-fn added(a: u32, b: u32) -> u32 {
-    a.wrapping_add(b)
 }
 
 fn one(image: &[u8], leaf: u8, at: usize) -> u32
@@ -59,61 +53,70 @@ fn one(image: &[u8], leaf: u8, at: usize) -> u32
     }
 }
 
+// A sum modulo 2^32.
+fn total(words: &[u32]) -> u32 {
+    words.iter().fold(0, |sum, word| sum.wrapping_add(*word))
+}
+
 fn partition(h: PartitionHeader) -> u32 {
-    let lengths = added(added(h.encrypted, h.unencrypted), added(h.total, h.next));
-    let addresses = added(
-        added(h.load_low, h.load_high),
-        added(h.data_offset, h.checksum_offset),
-    );
-    let execution = added(
-        (h.execution % 0x1_0000_0000) as u32,
-        (h.execution / 0x1_0000_0000) as u32,
-    );
     let attributes: Attributes = h.attributes;
     let block = h.block;
-    let block_words = added(block.size, block.offset);
-    let keys = added(
-        added(h.key, h.key_total),
-        added(h.key_actual, attributes.word),
-    );
-    let signature = added(
-        added(h.signature_total, h.signature_actual),
-        added(h.reserved, h.checksum),
-    );
-    added(
-        added(added(lengths, addresses), added(execution, block_words)),
-        added(keys, signature),
-    )
+    total(&[
+        h.encrypted,
+        h.unencrypted,
+        h.total,
+        h.next,
+        h.load_low,
+        h.load_high,
+        h.data_offset,
+        h.checksum_offset,
+        (h.execution % 0x1_0000_0000) as u32,
+        (h.execution / 0x1_0000_0000) as u32,
+        block.size,
+        block.offset,
+        h.key,
+        h.key_total,
+        h.key_actual,
+        attributes.word,
+        h.signature_total,
+        h.signature_actual,
+        h.reserved,
+        h.checksum,
+    ])
 }
 
 fn table(t: TableHeader) -> u32 {
-    let counts = added(added(t.version, t.images), added(t.partitions, t.kind));
-    let offsets = added(
-        added(t.image_header_offset, t.first_header_offset),
-        added(t.key, t.optional_words),
-    );
     let sizes = t.header_sizes;
     let block = t.block;
-    let block_words = added(block.size, block.offset);
-    added(
-        added(added(counts, offsets), added(sizes.word, block_words)),
-        added(t.reserved, t.checksum),
-    )
+    total(&[
+        t.version,
+        t.images,
+        t.partitions,
+        t.kind,
+        t.image_header_offset,
+        t.first_header_offset,
+        t.key,
+        t.optional_words,
+        sizes.word,
+        block.size,
+        block.offset,
+        t.reserved,
+        t.checksum,
+    ])
 }
 
 fn boot(b: BootHeader) -> u32 {
-    let identified = if b.identified { 1 } else { 0 };
-    let lengths = added(
-        added(b.cdo_length, b.cdo_total),
-        added(b.plm_length, b.plm_total),
-    );
-    added(
-        added(
-            added(b.width_detection, identified),
-            added(b.key, b.source_offset),
-        ),
-        added(lengths, b.checksum),
-    )
+    total(&[
+        b.width_detection,
+        u32::from(b.identified),
+        b.key,
+        b.source_offset,
+        b.cdo_length,
+        b.cdo_total,
+        b.plm_length,
+        b.plm_total,
+        b.checksum,
+    ])
 }
 
 fn entry(e: HashEntry) -> u32 {

@@ -1,5 +1,5 @@
+pub mod Appends
 pub mod Claims
 pub mod Inputs
 pub mod Laws
 pub mod Readings
-pub mod Stores

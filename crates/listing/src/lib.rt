@@ -1,38 +1,22 @@
 // What the program prints for an input, as bytes.
 #![tactic(auto)]
 
-mod decimal;
 mod lines;
 mod reading;
 
-ghost use Rattle.std.specs.Prelude.{◌≤◌, ◌≡◌, length};
-ghost use Rattle.std.proofs.lemmas.List.Edits.{sets};
-ghost use Rattle.listing.specs.Printed.{envelope_text, print_answer, print_buffer};
+ghost use Rattle.std.specs.Prelude.{◌≡◌};
+ghost use Rattle.listing.specs.Printed.{print_answer, print_buffer};
 
-use crate::reading::put_reading;
-use envelope::Opened;
+use crate::reading::push_reading;
+use arrayvec::ArrayString;
+use envelope::Envelope;
 use rows::BUFFER;
 
 // The most bytes that are printed: the 4 of `0 0` and its line feed, and for each number of a row buffer 20 digits and a byte behind them.
 pub const LONGEST: usize = 4 + 21 * BUFFER;
 
-// Stores `envelope` and a line feed, and answers how many bytes they are.
-fn put_envelope(out: &mut [u8]) -> usize
-    requires { 9 ≤ length out.old }
-    ensures answers { result ≡ length envelope_text }
-    ensures writes { out.new ≡ sets out.old 0 envelope_text }
-{
-    out[0] = b'e';
-    out[1] = b'n';
-    out[2] = b'v';
-    out[3] = b'e';
-    out[4] = b'l';
-    out[5] = b'o';
-    out[6] = b'p';
-    out[7] = b'e';
-    out[8] = b'\n';
-    9
-}
+// What is printed, as it grows.
+type Text = ArrayString<LONGEST>;
 
 // Puts what the program prints for this input at the start of `out`, and answers how many bytes it is. A buffer under LONGEST bytes is
 // left as found, and the answer is 0.
@@ -43,8 +27,12 @@ pub fn print(input: &[u8], out: &mut [u8]) -> usize
     if out.len() < LONGEST {
         return 0;
     }
-    let Opened::Holds(place) = envelope::open(input) else {
-        return put_envelope(out);
-    };
-    put_reading(envelope::image(input), place, out)
+    let mut text = Text::new();
+    match envelope::open(input) {
+        Some(Envelope { place, image }) => push_reading(&mut text, image, place),
+        None => text.push_str("envelope\n"),
+    }
+    let n = text.len();
+    out[..n].copy_from_slice(text.as_str().as_bytes());
+    n
 }

@@ -1,4 +1,4 @@
-// Ranges in two arrays, of starts and of sizes: whether some two clash, of one list or of two.
+// Lists of ranges: whether some two clash, of one list or of two.
 #![tactic(auto)]
 
 mod compare;

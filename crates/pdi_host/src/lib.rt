@@ -2,7 +2,7 @@
 // little-endian. A static library is no library for other crates, so pdi_host_c hands the calls to C.
 #![tactic(auto)]
 
-ghost use Rattle.std.specs.Prelude.{◌*◌, ◌≤◌, ◌≡◌, length, take};
+ghost use Rattle.std.specs.Prelude.{◌*◌, ◌≤◌, ◌≡◌, length};
 ghost use mathlib.Core.List.{[], ◌∷◌, flat_map};
 ghost use Rattle.std.proofs.lemmas.List.Edits.{sets};
 ghost use Rattle.pdi_spec.specs.Answers.{bill_answer, body_answer, owner_answer, read_answer};
@@ -14,16 +14,13 @@ use rows::{BUFFER, HEAD, ROW};
 // Rule 2: the bytes of a row buffer that serves, 8 to a number.
 const BYTES: usize = 8 * BUFFER;
 
-// Stores the first n numbers.
-fn put_numbers(rows: &mut [u8], numbers: &[u64], n: usize)
-    requires room { number_bytes * n ≤ length rows.old }
-    requires enough { n ≤ length numbers.now }
-    ensures { rows.new ≡ sets rows.old 0 (flat_map (le_bytes number_bytes) (take n numbers.now)) }
+// Stores the numbers from the first byte on.
+fn put_numbers(rows: &mut [u8], numbers: &[u64])
+    requires { number_bytes * length numbers.now ≤ length rows.old }
+    ensures { rows.new ≡ sets rows.old 0 (flat_map (le_bytes number_bytes) numbers.now) }
 {
-    let mut i: usize = 0;
-    while i < n {
+    for i in 0..numbers.len() {
         words::put_u64(rows, 8 * i, numbers[i]);
-        i += 1;
     }
 }
 
@@ -47,7 +44,8 @@ pub fn pdi_read(image: &[u8], place: u64, rows: &mut [u8]) -> u64
     let answer = reader::read(image, place as usize, &mut numbers);
     if answer == 0 {
         let partitions = numbers[2] as usize;
-        put_numbers(rows, &numbers, HEAD + ROW * partitions);
+        let written = HEAD + ROW * partitions;
+        put_numbers(rows, &numbers[..written]);
     }
     answer
 }

@@ -2,10 +2,9 @@
 // here. A contract can't speak of what a call of the system reads or writes, so it speaks of readers and writers whose bytes are known.
 #![tactic(auto)]
 
-ghost use Rattle.std.specs.Prelude.{◌≤◌, ◌<◌, ◌⊎◌, ◌≡◌, pos, length, IfSome, IsTrue};
+ghost use Rattle.std.specs.Prelude.{◌<◌, ◌⊎◌, ◌≡◌, pos, length, IfSome, IsTrue};
 ghost use Rattle.std.specs.Io.KnownBytes.{Appends};
 ghost use Rattle.listing.specs.Printed.{longest_input, printed};
-ghost use Rattle.program.specs.Readings.{Given, Within};
 
 use std::io::{Read, Write};
 
@@ -13,33 +12,15 @@ use std::io::{Read, Write};
 const ROOM: usize = envelope::HEAD + envelope::LONGEST + 1;
 
 // The buffer for standard input.
+#[tactic(auto, unfolding(listing::specs::Printed::longest_input, pdi_spec::specs::Envelope::envelope_head))]
 fn input_buffer() -> [u8; ROOM]
     ensures { longest_input < length result }
 {
     [0; ROOM]
 }
 
-// What came from standard input.
-#[derive(Drop)]
-enum Input {
-    // A read failed.
-    Failed,
-    // So many bytes, at the start of the buffer.
-    Bytes(usize),
-}
-
-// Reads until the input ends or the buffer is full.
-fn read_input<R: Read>(reader: &mut R, buffer: &mut [u8]) -> Input
-    ensures within { Within (length buffer.new) result }
-    ensures given { Given (R.remaining reader.old) (R.remaining reader.new) buffer.new result }
-{
-    match inputs::read_full(reader, buffer) {
-        Ok(n) => Input::Bytes(n),
-        Err(_) => Input::Failed,
-    }
-}
-
 // Writes what is printed for this input; false where not all could be written.
+#[tactic(auto, using(listing::proofs::Laws::Printed::answer_within))]
 fn answer<W: Write>(input: &[u8], writer: &mut W) -> bool
     ensures { IsTrue result → Appends (W.contents writer.old) (W.contents writer.new) (printed input.now) }
 {
@@ -56,7 +37,7 @@ pub fn pdi_run<R: Read, W: Write, E: Eprint>(reader: &mut R, writer: &mut W, mes
         → IfSome (R.remaining reader.old) (λ input. Appends (W.contents writer.old) (W.contents writer.new) (printed input)) }
 {
     let mut buffer = input_buffer();
-    let Input::Bytes(n) = read_input(reader, &mut buffer) else {
+    let Ok(n) = inputs::read_full(reader, &mut buffer) else {
         let _ = messages.eprintln("pdi: standard input can't be read");
         return 1;
     };

@@ -4,14 +4,15 @@
 // specs/Demands.antt gathers what is claimed of the definitions. Assumes nothing, and nothing depends on it.
 #![tactic(auto)]
 
-ghost use Rattle.std.specs.Prelude.{◌+◌, min, ◌≡◌, length, drop};
-ghost use Rattle.pdi_spec.specs.Answers.{read_answer, read_rows, bill_answer, body_part, body_answer, owner_answer};
+ghost use Rattle.std.specs.Prelude.{◌+◌, min, ◌≡◌, length, drop, IfSome};
+ghost use Rattle.std.specs.Option.{option_map};
+ghost use Rattle.pdi_spec.specs.Answers.{asked, read_answer, read_rows, bill_answer, body_part, body_answer, owner_answer};
 ghost use Rattle.pdi_spec.specs.Envelope.{envelope, envelope_head};
 ghost use Rattle.pdi_spec.specs.Host.{host_answer, host_rows};
 ghost use Rattle.envelope.specs.Opened.{opened_as};
 ghost use Rattle.listing.specs.Printed.{print_answer, print_buffer};
 
-use envelope::Opened;
+use envelope::Envelope;
 
 // Read: the answer, and all of the row buffer, for any image, place and buffer.
 pub fn read(image: &[u8], place: usize, rows: &mut [u64]) -> u64
@@ -81,9 +82,11 @@ pub fn print(input: &[u8], out: &mut [u8]) -> usize
     listing::print(input, out)
 }
 
-// The program's input: bad, or a table place.
-pub fn open(input: &[u8]) -> Opened
-    ensures { result ≡ opened_as (envelope input.now) }
+// The program's input: bad, or a table place and the image, a part of the caller's own bytes.
+pub fn open<'a>(input: &'a [u8]) -> Option<Envelope<'a>>
+    ensures holds { option_map (λ e. asked e.image.now e.place) result ≡ opened_as (envelope input.now) }
+    ensures block { IfSome result (λ e. e.image.ref_ptr.0 ≡ input.entry.ref_ptr.0) }
+    ensures offset { IfSome result (λ e. e.image.ref_ptr.1 ≡ input.entry.ref_ptr.1 + envelope_head) }
 {
     envelope::open(input)
 }

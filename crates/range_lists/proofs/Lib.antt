@@ -1,2 +1,2 @@
--- Laws for the proofs of this crate, and of those that use its lists. Assumes nothing.
-pub mod Lists
+-- Laws for the proofs here. Assumes nothing.
+pub mod Joined

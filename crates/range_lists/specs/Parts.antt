@@ -3,6 +3,7 @@ use Rattle.std.specs.Prelude.{ℕ, cond, List, [], ◌∷◌, ◌++◌, map, eqb
 use Rattle.pdi_spec.specs.Attributes.{has_load_address}
 use Rattle.pdi_spec.specs.Headers.{Header, Table}
 use Rattle.pdi_spec.specs.File.{File, header, partition_numbers}
+use Rattle.range_lists.specs.declared.parts.Part.{Part}
 use Rattle.pdi_spec.specs.Ranges.{Range, boot_range, table_with_optional, image_headers, header_range, span_of, body_of, load_range_of}
 
 -- the boot header of a full image, the table with its optional data, the image headers
@@ -13,10 +14,12 @@ first_ranges t = cond (eqb t.kind 1) (boot_range ∷ []) [] ++ (table_with_optio
 unfoldable pub load_of : Header → Range
 load_of h = cond (has_load_address h.attributes) (load_range_of h).addresses (record { start = 0; size = 0 })
 
--- which range of a partition is meant: 0 its header, 1 its span, 2 its body, 3 its load range
-unfoldable pub part_of : ℕ → Header → Range
-part_of part h = cond (eqb part 0) (header_range h) (cond (eqb part 1) (span_of h) (cond (eqb part 2) (body_of h) (load_of h)))
+-- which range of a partition is meant
+abbrev pub part_of : Part → Header → Range
+part_of Part.Header h = header_range h
+part_of Part.Span h = span_of h
+part_of Part.Body h = body_of h
 
 -- that range of each partition
-unfoldable pub parts_of : ℕ → File → List Range
+unfoldable pub parts_of : Part → File → List Range
 parts_of part f = map (λ (p : ℕ). part_of part (header f p)) (partition_numbers f)

@@ -1,1 +1,2 @@
-pub mod Answers
+-- Laws for the crates above. Assumes nothing.
+pub mod Equal

@@ -15,15 +15,16 @@ use Rattle.pdi_spec.proofs.Laws.Answers.{bill_accepted, bill_refused, part_accep
 use Rattle.pdi_spec.proofs.Laws.Kept.{lengths_stated, span_stated}
 use Rattle.pdi_spec.proofs.Laws.Once.{once_kept}
 use Rattle.pdi_spec.proofs.Laws.Owners.{owner_refused, owner_none, owner_accepted}
-use Rattle.pdi_spec.proofs.Laws.Refusals.{buffer_accepts, refusal_below, refusal_p}
+use Rattle.pdi_spec.proofs.Laws.Refusals.{buffer_accepts}
 use Rattle.pdi_spec.proofs.Laws.Rows.{after_accepted, after_refused}
 use Rattle.pdi_spec.proofs.Laws.Verdict.{accepted_kept, verdict_after}
 use Rattle.headers.specs.declared.table.TableHeader.{TableHeader}
 use Rattle.chain_rules.specs.Chain.{file_of}
 use Rattle.chain_rules.proofs.Counts.{counted}
-use Rattle.checks.specs.Readings.{core_rules, outcome_of, Held, CoreAnswer}
+use Rattle.checks.specs.Readings.{core_rules, Held}
 use Rattle.rows.specs.Rows.{overwritten}
-use Rattle.checks.specs.declared.Reading.{Reading}
+use Rattle.rows.specs.declared.accepted.Accepted.{Accepted}
+use Rattle.chain_rules.specs.File.{file_of_chain}
 
 -- ---- the lists
 
@@ -37,46 +38,46 @@ with_rows_lem : (own : List Rule) (n : ℕ) (f : File) → verdict (core_rules (
 unfolding core_rules with_rows with_buffer buffer_too_short
 with_rows_lem own n f = refl
 
+-- the file of what is handed on is the one that was asked about
+same_file : (bytes : List ℕ) (place : ℕ) (a : Accepted) → Held bytes place a → file_of_chain a.chain ≡ asked bytes place
+same_file bytes place a held =
+    (λ i. file_of (held.own_image i) a.chain.table) ∙ ap (asked bytes) held.at_place
+
 -- ---- what the core's answer tells
 
-module _ {own : List Rule} (s : Supported own) (bytes : List ℕ) (place : ℕ) {offsets entries : List ℕ} {r : Reading}
-    (told : CoreAnswer bytes place (core_rules false own) offsets entries r) where
+module _ {own : List Rule} (s : Supported own) (bytes : List ℕ) (place : ℕ) where
   abbrev f : File
   f = asked bytes place
 
-  refused_is : {k p : ℕ} → r ≡ Reading.Refused k p → verdict (without_buffer own) f ≡ refused k p
-  unfolding outcome_of
-  refused_is e = sym (without_buffer_lem own f) ∙ sym told.told ∙ ap outcome_of e
+  module _ {k p : ℕ} (told : refused k p ≡ verdict (core_rules false own) f) where
+    refused_is : verdict (without_buffer own) f ≡ refused k p
+    refused_is = sym (without_buffer_lem own f) ∙ sym told
 
-  accepted_is : {t : TableHeader} {bill : ℕ} → r ≡ Reading.Accepted t bill → verdict (without_buffer own) f ≡ accepted
-  unfolding outcome_of
-  accepted_is e = sym (without_buffer_lem own f) ∙ sym told.told ∙ ap outcome_of e
+    pub refused_bill : 0 ≡ bill_by own bytes place
+    unfolding bill_by
+    refused_bill = sym (bill_refused (without_buffer own) f k p refused_is)
 
-  pub refused_bill : {k p : ℕ} → r ≡ Reading.Refused k p → 0 ≡ bill_by own bytes place
-  unfolding bill_by
-  refused_bill {k} {p} e = sym (bill_refused (without_buffer own) f k p (refused_is e))
+    pub refused_part : (q : ℕ) → part_by own bytes place q ≡ empty_part
+    unfolding part_by
+    refused_part q = part_refused (without_buffer own) f k p refused_is q
 
-  pub refused_part : {k p : ℕ} → r ≡ Reading.Refused k p → (q : ℕ) → part_by own bytes place q ≡ empty_part
-  unfolding part_by
-  refused_part {k} {p} e q = part_refused (without_buffer own) f k p (refused_is e) q
+    pub refused_owner : (q : ℕ) → 0 ≡ owner_by own bytes place q
+    unfolding owner_by
+    refused_owner q = sym (owner_refused (without_buffer own) f k p refused_is q)
 
-  pub refused_owner : {k p : ℕ} → r ≡ Reading.Refused k p → (q : ℕ) → 0 ≡ owner_by own bytes place q
-  unfolding owner_by
-  refused_owner {k} {p} e q = sym (owner_refused (without_buffer own) f k p (refused_is e) q)
+  module _ (told : accepted ≡ verdict (core_rules false own) f) (a : Accepted) (held : Held bytes place a) where
+    abbrev t : TableHeader
+    t = a.chain.table
 
-  module _ {t : TableHeader} {bill : ℕ} (e : r ≡ Reading.Accepted t bill) where
-    abbrev held : Held bytes place t bill offsets entries
-    held = told.held t bill e
-
-    same_file : file_of bytes t ≡ f
-    same_file = ap (asked bytes) held.at_place
+    accepted_is : verdict (without_buffer own) f ≡ accepted
+    accepted_is = sym (without_buffer_lem own f) ∙ sym told
 
     count_is : t.partitions ≡ partitions f
-    count_is = counted held.chain ∙ ap partitions same_file
+    count_is = counted a.chain.followed ∙ ap partitions (same_file bytes place a held)
 
-    pub accepted_bill : bill ≡ bill_by own bytes place
+    pub accepted_bill : a.bill ≡ bill_by own bytes place
     unfolding bill_by
-    accepted_bill = held.billed_is ∙ ap billed same_file ∙ sym (bill_accepted (without_buffer own) f (accepted_is e))
+    accepted_bill = a.sum ∙ ap billed (same_file bytes place a held) ∙ sym (bill_accepted (without_buffer own) f accepted_is)
 
     -- a p that isn't 1 to N
     other : (p : ℕ) → (p < 1) ⊎ (t.partitions < p) → (p < 1) ⊎ (partitions f < p)
@@ -93,86 +94,73 @@ module _ {own : List Rule} (s : Supported own) (bytes : List ℕ) (place : ℕ) 
 
     pub owner_told : (p : ℕ) → 1 ≤ p → p ≤ t.partitions → {o : ℕ} → o ≡ owner_image (file_of bytes t) p → o ≡ owner_by own bytes place p
     unfolding owner_by
-    owner_told p low high e' =
-        e'
-        ∙ ap (λ (g : File). owner_image g p) same_file
-        ∙ sym (owner_accepted (without_buffer own) f (accepted_is e) p low (omega (arith, count_is)))
+    owner_told p low high e =
+        e
+        ∙ ap (λ (q : ℕ). owner_image (asked bytes q) p) held.at_place
+        ∙ sym (owner_accepted (without_buffer own) f accepted_is p low (omega (arith, count_is)))
 
     -- a partition from 1 to N, its header, as it was read, and the range of its body
-    module _ (p : ℕ) (low : 1 ≤ p) (high : p ≤ t.partitions) {h : Header} (read : h ≡ header (file_of bytes t) (p - 1 + 1))
+    module _ (p : ℕ) (low : 1 ≤ p) (high : p ≤ t.partitions) {h : Header} (read : h ≡ header (file_of_chain a.chain) (p - 1 + 1))
         {b : Range} (named : b ≡ body_of h) where
       is_body : b ≡ body f p
       unfolding body
       is_body =
           named
           ∙ ap body_of
-          (read ∙ ap (λ (g : File). header g (p - 1 + 1)) same_file ∙ ap (header f) {x = p - 1 + 1} {y = p} (omega arith))
+          (read ∙ ap (λ (g : File). header g (p - 1 + 1)) (same_file bytes place a held)
+          ∙ ap (header f) {x = p - 1 + 1} {y = p} (omega arith))
 
       pub ends : b.start + b.size ≤ length bytes
       unfolding without_buffer body
       ends =
           let high' : p ≤ partitions f = omega (arith, count_is) in
-          let span = span_stated f p low high' (accepted_kept (without_buffer own) f (accepted_is e)
-          (mem-cons_of_mem rule1 s.spans)) in
-          let order = (lengths_stated f p low high' (accepted_kept (without_buffer own) f (accepted_is e)
+          let span = span_stated f p low high' (accepted_kept (without_buffer own) f accepted_is (mem-cons_of_mem rule1 s.spans)) in
+          let order = (lengths_stated f p low high' (accepted_kept (without_buffer own) f accepted_is
           (mem-cons_of_mem rule1 s.lengths))).2 in
           omega (arith, span, order, ap (λ (r : Range). r.start) is_body, ap (λ (r : Range). r.size) is_body)
 
       pub part_is : part_by own bytes place p ≡ b
       unfolding part_by
-      part_is = part_accepted (without_buffer own) f (accepted_is e) p low (omega (arith, count_is)) ∙ sym is_body
+      part_is = part_accepted (without_buffer own) f accepted_is p low (omega (arith, count_is)) ∙ sym is_body
 
 -- ---- the same of read, with a row buffer
 
-module _ {own : List Rule} (s : Supported own) (bytes : List ℕ) (place : ℕ) (rows : List ℕ) {offsets entries : List ℕ} {r : Reading}
-    (told : CoreAnswer bytes place (core_rules (ltb (length rows) buffer_numbers) own) offsets entries r) where
+module _ (own : List Rule) (bytes : List ℕ) (place : ℕ) (rows : List ℕ) where
   abbrev g : File
   g = asked bytes place
 
-  is_verdict : outcome_of r ≡ verdict (with_rows (length rows) own) g
-  is_verdict = told.told ∙ with_rows_lem own (length rows) g
+  module _ {k p : ℕ} (told : refused k p ≡ verdict (core_rules (ltb (length rows) buffer_numbers) own) g) where
+    read_refused : refused k p ≡ verdict (with_rows (length rows) own) g
+    read_refused = told ∙ with_rows_lem own (length rows) g
 
-  pub read_answer_lem : answer (outcome_of r) ≡ read_by own bytes place rows
-  unfolding read_by
-  read_answer_lem = ap answer is_verdict
-
-  module _ {k p : ℕ} (e : r ≡ Reading.Refused k p) where
-    read_refused : verdict (with_rows (length rows) own) g ≡ refused k p
-    unfolding outcome_of
-    read_refused = sym is_verdict ∙ ap outcome_of e
-
-    -- number and p are small, so that the answer fits
-    pub small : answer (outcome_of r) < 0x1_0000_0000
-    unfolding with_rows answer outcome_of
-    small =
-        let number = refusal_below s buffer_numbers (length rows) g k p read_refused in
-        let partition = refusal_p s buffer_numbers (length rows) g k p read_refused in
-        omega (arith, ap (λ (x : Reading). answer (outcome_of x)) e, number, partition)
+    pub refused_answer : answer (refused k p) ≡ read_by own bytes place rows
+    unfolding read_by
+    refused_answer = ap answer read_refused
 
     pub refused_rows : rows ≡ rows_by own bytes place rows
     unfolding rows_by
-    refused_rows = sym (after_refused (with_rows (length rows) own) g rows k p read_refused)
+    refused_rows = sym (after_refused (with_rows (length rows) own) g rows k p (sym read_refused))
 
-  module _ {t : TableHeader} {bill : ℕ} (e : r ≡ Reading.Accepted t bill) where
+  module _ (told : accepted ≡ verdict (core_rules (ltb (length rows) buffer_numbers) own) g) (a : Accepted) where
     read_accepted : verdict (with_rows (length rows) own) g ≡ accepted
-    unfolding outcome_of
-    read_accepted = sym is_verdict ∙ ap outcome_of e
+    read_accepted = sym (told ∙ with_rows_lem own (length rows) g)
 
     pub accepted_answer : 0 ≡ read_by own bytes place rows
     unfolding read_by answer
     accepted_answer = sym (ap answer read_accepted)
 
     -- the buffer serves, and there are few partitions
-    pub room : head_width + row_width * t.partitions ≤ length rows
+    pub room : head_width + row_width * a.chain.table.partitions ≤ length rows
     unfolding with_rows
     room =
         let serves = ((buffer_accepts buffer_numbers (length rows) own g).0 read_accepted).0 in
-        omega (arith, serves, (told.held t bill e).chain.few)
+        omega (arith, serves, a.chain.followed.few)
 
-    pub accepted_rows : {after : List ℕ} → after ≡ overwritten (file_of bytes t) rows → after ≡ rows_by own bytes place rows
+    pub accepted_rows : Held bytes place a → {after : List ℕ} → after ≡ overwritten (file_of_chain a.chain) rows
+        → after ≡ rows_by own bytes place rows
     unfolding rows_by overwritten
-    accepted_rows w =
-        w ∙ ap (λ (q : ℕ). overwritten (asked bytes q) rows) (told.held t bill e).at_place
+    accepted_rows held w =
+        w ∙ ap (λ (h : File). overwritten h rows) (same_file bytes place a held)
         ∙ sym (after_accepted (with_rows (length rows) own) g rows read_accepted)
 
 -- what body hands back where its part is b: its bytes, and its place in the image

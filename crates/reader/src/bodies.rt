@@ -3,9 +3,7 @@ ghost use Rattle.std.specs.Prelude.{◌≡◌, ◌+◌, ◌≤◌, length};
 ghost use Rattle.pdi_spec.specs.Answers.{body_answer, body_part};
 ghost use Rattle.ranges.specs.Range.{range_of};
 
-use chain_rules::header_at;
-use checks::{Reading, check};
-use headers::MOST_PARTITIONS;
+use checks::check;
 use ranges::Range;
 
 // Where it lies: an empty part at the start for a refused image, and for a p that isn't 1 to N.
@@ -14,19 +12,17 @@ fn part_of(image: &[u8], place: usize, p: usize) -> Range
     ensures inside { result.start + result.size ≤ length image.now }
 {
     let none = Range { start: 0, size: 0 };
-    let mut offsets = [0usize; MOST_PARTITIONS];
-    let mut entries = [0usize; MOST_PARTITIONS];
-    let reading = check(image, place, false, &mut offsets, &mut entries);
-    let Reading::Accepted(table, _) = reading else {
+    let Ok(accepted) = check(image, place, false) else {
         return none;
     };
+    let chain = accepted.chain;
     if p < 1 {
         return none;
     }
-    if (table.partitions as usize) < p {
+    if (chain.table.partitions as usize) < p {
         return none;
     }
-    let h = header_at(image, table, &offsets, p - 1);
+    let h = chain.header(p - 1);
     h.body()
 }
 

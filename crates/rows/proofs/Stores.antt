@@ -1,11 +1,12 @@
 -- The head and the rows, as they are stored: runs of stores, and the rows of one partition more. Assumes nothing.
-use Prim.Native.Nat.{ℕ, ◌+◌, ◌*◌, ◌≤◌, ◌<◌}
-use native.Mathlib.Numerals.{add-one}
+use Prim.Native.Nat.{ℕ, ◌+◌, ◌*◌, ◌≤◌}
 use native.Mathlib.Omega.{arith}
 use mathlib.Core.List.{List, [], ◌∷◌, ◌++◌, flat_map}
 use mathlib.Core.Path.{◌≡◌, refl, sym, ◌∙◌, ap, ap₂}
-use lib.ListN.{length, take, drop, set, get_or}
-use lib.Seq.{sets, sets-eq, take-suc, length-take-le}
+use lib.ListN.{length, drop, set}
+use lib.Seq.{sets, sets-eq}
+use borrow.Rule.Slice.PartMut.{put_mid}
+use Rattle.std.proofs.Common.{append_assoc, drop-drop}
 use Rattle.pdi_spec.specs.Headers.{Table, Header}
 use Rattle.pdi_spec.specs.Lists.{numbers}
 use Rattle.pdi_spec.specs.File.{File, table, partitions, partition_numbers, header}
@@ -15,12 +16,10 @@ use Rattle.pdi_spec.specs.Limits.{head_width, row_width}
 use Rattle.pdi_spec.proofs.Laws.Lists.{flat_map_length, flat_map_numbers, numbers_length, sets_append}
 use Rattle.rows.specs.Rows.{first_rows, overwritten}
 
--- one store more of a row
-pub store_next : (l row : List ℕ) (at k : ℕ) → k < length row
-    → set (sets l at (take k row)) (at + k) (get_or row k 0) ≡ sets l at (take (k + 1) row)
-store_next l row at k h =
-    sets_append l (take k row) (get_or row k 0 ∷ []) at (at + k) (omega (arith, length-take-le k row (omega arith)))
-    ∙ ap (sets l at) (sym (take-suc row k 0 h) ∙ ap (λ (n : ℕ). take n row) (sym (add-one k)))
+-- to write numbers over a part stores them one by one
+pub part_stored : (l : List ℕ) (at k : ℕ) {part : List ℕ} (numbers : List ℕ) → k ≡ length numbers → part ≡ numbers
+    → at + length numbers ≤ length l → put_mid at k l part ≡ sets l at numbers
+part_stored l at k numbers size is h = rw (size, is, sets-eq numbers l at h) (simp (append_assoc, drop-drop))
 
 -- ---- rows
 
@@ -28,13 +27,15 @@ row_width_lem : (r : Row) → length (row_numbers r) ≡ row_width
 unfolding row_numbers
 row_width_lem r = refl
 
+pub row_size : (r : Row) (row : List ℕ) → row ≡ row_numbers r → length row ≡ row_width
+row_size r row e = ap length e ∙ row_width_lem r
+
 -- a row, from its header, the header's two ranges and its hash entry
-pub row_told : (f : File) (p : ℕ) {h : Header} {s r : Range} {key entry : ℕ} → h ≡ header f p → s ≡ span_of h
-    → r ≡ (load_range_of h).addresses
-    → key ≡ h.key → entry ≡ hash_entry f p
-    → s.start ∷ s.size ∷ r.size ∷ r.start ∷ h.execution ∷ key ∷ entry ∷ h.attributes ∷ [] ≡ row_numbers (row_of f p)
+pub row_told : (f : File) (p : ℕ) {h : Header} {s r : Range} {key entry attributes : ℕ} → h ≡ header f p → s ≡ span_of h
+    → r ≡ (load_range_of h).addresses → key ≡ h.key → entry ≡ hash_entry f p → attributes ≡ h.attributes
+    → s.start ∷ s.size ∷ r.size ∷ r.start ∷ h.execution ∷ key ∷ entry ∷ attributes ∷ [] ≡ row_numbers (row_of f p)
 unfolding row_numbers row_of span load_range
-row_told f p e es er ek ee = rw (es, er, ek, ee, e) refl
+row_told f p e es er ek ee ea = rw (es, er, ek, ee, ea, e) refl
 
 pub rows_length : (f : File) (n : ℕ) → length (first_rows f n) ≡ row_width * n
 unfolding first_rows

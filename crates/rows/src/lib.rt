@@ -1,8 +1,10 @@
 // What is stated of an accepted image: the billed bytes, and the row buffer with its head and rows.
 #![tactic(auto)]
 
+mod accepted;
 mod bill;
 mod buffer;
 
+pub use accepted::Accepted;
 pub use bill::billed;
-pub use buffer::{BUFFER, HEAD, ROW, write};
+pub use buffer::{BUFFER, HEAD, ROW};

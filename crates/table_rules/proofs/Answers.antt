@@ -1,4 +1,4 @@
--- What the stage answers, from the lowest broken rule and from the tests' answers; and that a table which rule 3 has passed lies inside.
+-- What the verdict is, from the lowest broken rule and from the tests' answers; and that a table which rule 3 has passed lies inside.
 -- Assumes nothing.
 use Prim.Native.Nat.{ℕ, ◌+◌, ◌%◌, ◌≤◌}
 use native.Mathlib.Omega.{arith}
@@ -16,40 +16,34 @@ use Rattle.pdi_spec.specs.Ranges.{past, end_of}
 use Rattle.pdi_spec.specs.RuleList.{table_rules}
 use Rattle.pdi_spec.specs.Rules.{table_outside, table_checksum_wrong, kind_unknown, table_fields_bad, table_key_unknown}
 use Rattle.pdi_spec.specs.Rules.{boot_header_bad, boot_header_wrong, image_headers_outside}
-use Rattle.pdi_spec.specs.Verdict.{Outcome, once, first_broken}
+use Rattle.pdi_spec.specs.Verdict.{accepted, refused, once, first_broken, verdict}
 use Rattle.pdi_spec.specs.Words.{checksum}
 use Rattle.pdi_spec.proofs.Laws.Broken.{at_zero, once_verdict}
 use Rattle.pdi_spec.proofs.Laws.Tests.{or_right}
 use Rattle.headers.specs.Headers.{table_of}
 use Rattle.headers.specs.declared.table.TableHeader.{TableHeader}
-use Rattle.table_rules.specs.Answers.{to_table, table_answer_of, table_answer}
-use Rattle.table_rules.specs.declared.TableAnswer.{TableAnswer}
 
--- what is answered of a number that was found, and where none was
-answer_told : (f : File) {found : Option ℕ} → first_broken table_rules f 0 ≡ found
-    → table_answer_of (at_zero found) (table f) ≡ table_answer f
-unfolding table_answer table_rules once
-answer_told f e =
-    let verdict_is = once_verdict table_rules f (refl, (refl, (refl, (refl, (refl, (refl, (refl, tt))))))) in
-    sym (ap (λ (o : Outcome). table_answer_of o (table f)) (verdict_is ∙ ap at_zero e))
+-- the verdict where a number was found, and where none was
+found_told : (f : File) {found : Option ℕ} → first_broken table_rules f 0 ≡ found → at_zero found ≡ verdict table_rules f
+unfolding table_rules once
+found_told f e = sym (once_verdict table_rules f (refl, (refl, (refl, (refl, (refl, (refl, (refl, tt))))))) ∙ ap at_zero e)
 
-refused_told : (f : File) {k : ℕ} → first_broken table_rules f 0 ≡ some k → TableAnswer.Refused k ≡ table_answer f
-unfolding table_answer_of Option-elim
-refused_told f e = answer_told f e
+refused_told : (f : File) {k : ℕ} → first_broken table_rules f 0 ≡ some k → refused k 0 ≡ verdict table_rules f
+unfolding Option-elim
+refused_told f e = found_told f e
 
-checked_told : (f : File) (t : TableHeader) → table_of t ≡ table f
-    → first_broken table_rules f 0 ≡ none → TableAnswer.Checked t ≡ table_answer f
-unfolding table_answer_of Option-elim
-checked_told f t own e = ap (λ (u : Table). TableAnswer.Checked (to_table u)) own ∙ answer_told f e
+accepted_told : (f : File) → first_broken table_rules f 0 ≡ none → accepted ≡ verdict table_rules f
+unfolding Option-elim
+accepted_told f e = found_told f e
 
 pub table_inside : (f : File) → table_outside f ≡ false → f.place + header_size ≤ length f.bytes
 unfolding table_outside past end_of
 table_inside f e = ltb-false (length f.bytes) (f.place + header_size) (or_right (not (eqb (f.place % 4) 0)) _ e)
 
--- ---- what is answered where a rule is the first that is broken, and past them all; `t` is the table as the code reads it
+-- ---- the verdict where a rule is the first that is broken, and past them all; `t` is the table as the code reads it
 
 module _ (image : List ℕ) (place : ℕ) where
-  pub told_3 : table_outside (asked image place) ≡ true → TableAnswer.Refused 3 ≡ table_answer (asked image place)
+  pub told_3 : table_outside (asked image place) ≡ true → refused 3 0 ≡ verdict table_rules (asked image place)
   unfolding table_rules once first_broken
   told_3 e = refused_told _ (rw e refl)
 
@@ -68,36 +62,36 @@ module _ (image : List ℕ) (place : ℕ) where
     unfolding boot_header_wrong table is_full
     boot_is told = sym (ap (λ (t : Table). eqb t.kind 1 && boot_header_bad image t (boot_from image)) own) ∙ told
 
-    pub told_4 : not (eqb t.checksum (checksum image t.place 31)) ≡ true → TableAnswer.Refused 4 ≡ table_answer (asked image place)
+    pub told_4 : not (eqb t.checksum (checksum image t.place 31)) ≡ true → refused 4 0 ≡ verdict table_rules (asked image place)
     unfolding table_rules once first_broken
     told_4 e = refused_told _ (rw (k3, checksum_is e) refl)
 
     module _ (k4 : not (eqb t.checksum (checksum image t.place 31)) ≡ false) where
-      pub told_5 : kind_unknown (table_of t) ≡ true → TableAnswer.Refused 5 ≡ table_answer (asked image place)
+      pub told_5 : kind_unknown (table_of t) ≡ true → refused 5 0 ≡ verdict table_rules (asked image place)
       unfolding table_rules once first_broken table
       told_5 e = refused_told _ (rw (k3, checksum_is k4, ← own, e) refl)
 
       module _ (k5 : kind_unknown (table_of t) ≡ false) where
-        pub told_6 : table_fields_bad (table_of t) ≡ true → TableAnswer.Refused 6 ≡ table_answer (asked image place)
+        pub told_6 : table_fields_bad (table_of t) ≡ true → refused 6 0 ≡ verdict table_rules (asked image place)
         unfolding table_rules once first_broken table
         told_6 e = refused_told _ (rw (k3, checksum_is k4, ← own, k5, e) refl)
 
         module _ (k6 : table_fields_bad (table_of t) ≡ false) where
-          pub told_7 : table_key_unknown (table_of t) ≡ true → TableAnswer.Refused 7 ≡ table_answer (asked image place)
+          pub told_7 : table_key_unknown (table_of t) ≡ true → refused 7 0 ≡ verdict table_rules (asked image place)
           unfolding table_rules once first_broken table
           told_7 e = refused_told _ (rw (k3, checksum_is k4, ← own, k5, k6, e) refl)
 
           module _ (k7 : table_key_unknown (table_of t) ≡ false) where
             pub told_8 : (eqb t.kind 1 && boot_header_bad image (table_of t) (boot_from image)) ≡ true
-                → TableAnswer.Refused 8 ≡ table_answer (asked image place)
+                → refused 8 0 ≡ verdict table_rules (asked image place)
             unfolding table_rules once first_broken table
             told_8 e = refused_told _ (rw (k3, checksum_is k4, ← own, k5, k6, k7, boot_is e) refl)
 
             module _ (k8 : (eqb t.kind 1 && boot_header_bad image (table_of t) (boot_from image)) ≡ false) where
-              pub told_9 : image_headers_outside image (table_of t) ≡ true → TableAnswer.Refused 9 ≡ table_answer (asked image place)
+              pub told_9 : image_headers_outside image (table_of t) ≡ true → refused 9 0 ≡ verdict table_rules (asked image place)
               unfolding table_rules once first_broken table
               told_9 e = refused_told _ (rw (k3, checksum_is k4, ← own, k5, k6, k7, boot_is k8, e) refl)
 
-              pub told : image_headers_outside image (table_of t) ≡ false → TableAnswer.Checked t ≡ table_answer (asked image place)
+              pub told : image_headers_outside image (table_of t) ≡ false → accepted ≡ verdict table_rules (asked image place)
               unfolding table_rules once first_broken table
-              told e = checked_told _ t own (rw (k3, checksum_is k4, ← own, k5, k6, k7, boot_is k8, e) refl)
+              told e = accepted_told _ (rw (k3, checksum_is k4, ← own, k5, k6, k7, boot_is k8, e) refl)

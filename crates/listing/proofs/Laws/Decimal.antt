@@ -1,11 +1,13 @@
--- Laws of a number in decimal: its digits by those of its tenth, how many there are, which bytes they are, and that they read back.
--- Assumes nothing.
+-- Laws of a number in decimal: its digits by those of its tenth, what std writes, how many there are, which bytes they are, and that they
+-- read back. Assumes nothing.
 use Rattle.std.specs.Prelude.{ℕ, zero, suc, ◌+◌, ◌-◌, ◌*◌, ◌/◌, ◌%◌, ◌^◌, ◌≤◌, ◌<◌, Bool, true, false, ◌⊎◌, ◌≡◌, refl, ltb, length, get_or}
 use Rattle.std.proofs.Math.Bridge.{le_prop}
 use Rattle.std.proofs.Common.{arith, inl, inr, ⊎_elim, sym, ◌∙◌, ap, length-append, lt-ltb, le-ltb, ltb-true, ltb-false}
 use mathlib.Core.HLevel.{×_prop}
 use mathlib.Core.List.{List, [], ◌∷◌, ◌++◌, Mem}
 use Rattle.std.proofs.Math.ListN.{get_or-append}
+use Rattle.std.proofs.lemmas.Fmt.{AppendsLastDigit, decimal_from_appends, length-decimal-le_succ}
+use Rattle.std.specs.Fmt
 use Rattle.pdi_spec.proofs.Laws.Lists.{Every, every_mem}
 use Rattle.listing.specs.Decimal.{digit, digits_up_to, decimal, value_from, value}
 
@@ -47,6 +49,15 @@ unfolding decimal
 decimal_more n h =
     up_to_more n n h ∙ ap (λ (l : List ℕ). l ++ (digit (n % 10) ∷ [])) (enough n (suc (n / 10)) (n / 10) (omega arith) (omega arith))
 
+-- what std writes for a number of 64 bits
+appends : AppendsLastDigit digits_up_to
+unfolding digit
+appends = record { one = up_to_small; more = up_to_more }
+
+pub as_std : (n : ℕ) → n < 2 ^ 64 → Fmt.decimal n ≡ decimal n
+unfolding decimal
+as_std n h = sym (decimal_from_appends digits_up_to appends (suc n) n h (omega (arith, length-decimal-le_succ n h)))
+
 -- what holds of one digit, and of a number where it holds of its tenth, holds of every number
 module _ (P : ℕ → Type 0) (one : (n : ℕ) → n < 10 → P n) (more : (n : ℕ) → 10 ≤ n → P (n / 10) → P n) where
   below : (most n : ℕ) → n < most → P n
@@ -66,17 +77,6 @@ pub decimal_some : (n : ℕ) → 0 < length (decimal n)
 decimal_some =
     by_digits (λ n. 0 < length (decimal n)) (λ n h. omega (arith, ap length (decimal_small n h)))
     (λ n h k. omega (arith, length_more n h))
-
--- a number's tenth is below the power before
-tenth : (k n : ℕ) → n < 10 ^ suc (suc k) → n / 10 < 10 ^ suc k
-tenth k n h = omega arith
-
--- a number below a power of ten has at most as many digits as that power has zeros
-pub decimal_length : (k n : ℕ) → n < 10 ^ suc k → length (decimal n) ≤ suc k
-decimal_length zero n h = omega (arith, ap length (decimal_small n h))
-decimal_length (suc k) n h =
-    ⊎_elim (λ few. omega (arith, ap length (decimal_small n few)))
-    (λ many. omega (arith, length_more n many, decimal_length k (n / 10) (tenth k n h))) (one_or_more n)
 
 -- ---- which bytes
 

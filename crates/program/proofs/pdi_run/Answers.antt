@@ -6,5 +6,5 @@ use Rattle.program.proofs.pdi_run.Goals as goal
 
 pub returns-then-answer-clause-prints : goal.returns-then-answer-clause-prints
 returns-then-answer-clause-prints g c = λ _.
-    read_prints _ _ _ _ (Appends _ _) (omega arith) c.in-Bytes.ensures.within c.in-Bytes.ensures.given.0 c.in-Bytes.ensures.given.1
+    read_prints _ _ _ _ (Appends _ _) (omega arith) c.in-Ok.ensures.within c.in-Ok.ensures.bytes c.in-Ok.ensures.end
     (c.if-answer.ensures refl)

@@ -1,6 +1,5 @@
 -- `block_rules::entries::check_block` meets its contract: by cases of its tests and of what its searches find. Assumes nothing.
-use Prim.Native.Nat.{◌+◌, ◌*◌, ◌≤◌, ◌<◌}
-use native.Mathlib.Omega.{arith}
+use Prim.Native.Nat.{◌+◌, ◌*◌, ◌≤◌}
 use mathlib.Core.Bool.{Bool, false, not, ◌||◌}
 use mathlib.Core.Path.{◌≡◌, sym, ◌∙◌, ap}
 use lib.Dec.{eqb}
@@ -9,7 +8,7 @@ use Rattle.pdi_spec.specs.HashBlock.{no_block, entries_in, own_entries}
 use Rattle.pdi_spec.specs.Ranges.{past, block_range}
 use Rattle.pdi_spec.specs.Rules.{hash_block_bad}
 use Rattle.headers.specs.Headers.{block_of}
-use Rattle.block_rules.proofs.Block.{ill_sized, bad_by, inside, absent, refused, checked, none_own, own_at, two_own, one_own}
+use Rattle.block_rules.proofs.Block.{ill_sized, bad_by, inside, absent, refused, checked, none_own, own_at, own_counted}
 use Rattle.block_rules.proofs.entries.check_block.Goals.{After-past}
 use Rattle.block_rules.proofs.entries.check_block.Goals as goal
 
@@ -47,32 +46,25 @@ returns-then-b-n c =
     let d = (goal.at.returns-then-b-n c).After-past in
     refused _ _ _ (some d) (sym (rule d c.if-b-n.true))
 
-pub next_entry-own-requires : goal.next_entry-own-requires
-next_entry-own-requires c = block_inside (goal.at.next_entry-own-requires c).After-past c.if-b-n.false
-
-pub returns-then-own-n : goal.returns-then-own-n
-returns-then-own-n c =
-    let d = (goal.at.returns-then-own-n c).After-past in
-    refused _ _ _ (some d)
-    (sym (rule d c.if-b-n.false) ∙ none_own _ _ _ c.next_entry-own.ensures (c.if-own-n.true ∙ count d))
-
 pub next_entry-requires : goal.next_entry-requires
 next_entry-requires c = block_inside (goal.at.next_entry-requires c).After-past c.if-b-n.false
 
-pub returns-then-next_entry-n : goal.returns-then-next_entry-n
-returns-then-next_entry-n c =
-    let d = (goal.at.returns-then-next_entry-n c).After-past in
-    let first = c.next_entry-own.ensures in
-    let found : c.next_entry-own.result < entries_in c.args.b.size = omega (arith, first.most, count d) in
-    let next = c.next_entry.ensures in
-    refused _ _ _ (some d)
-    (sym (rule d c.if-b-n.false) ∙ two_own _ _ _ first found next (omega (arith, next.most, count d)))
+pub returns-in_default : goal.returns-in_default
+returns-in_default c =
+    let d = (goal.at.returns-in_default c).After-past in
+    refused _ _ _ (some d) (sym (rule d c.if-b-n.false) ∙ none_own _ _ _ c.in_default.ensures)
+
+pub next_entry-requires-2 : goal.next_entry-requires-2
+next_entry-requires-2 c = block_inside (goal.at.next_entry-requires-2 c).After-past c.if-b-n.false
+
+pub returns-then-is_some : goal.returns-then-is_some
+returns-then-is_some c =
+    let d = (goal.at.returns-then-is_some c).After-past in
+    let told = own_counted _ _ _ c.in-Some.ensures _ c.next_entry-2.ensures ∙ sym c.is_some.ensures ∙ c.if-is_some.true in
+    refused _ _ _ (some d) (sym (rule d c.if-b-n.false) ∙ told)
 
 pub returns : goal.returns
 returns c =
     let d = (goal.at.returns c).After-past in
-    let first = c.next_entry-own.ensures in
-    let found : c.next_entry-own.result < entries_in c.args.b.size = omega (arith, first.most, count d) in
-    checked _ _ _ (some d)
-    (sym (rule d c.if-b-n.false) ∙ one_own _ _ _ first found c.next_entry.ensures (omega (arith, count d)))
-    (c.entry_at.ensures ∙ own_at _ _ _ first found)
+    let told = own_counted _ _ _ c.in-Some.ensures _ c.next_entry-2.ensures ∙ sym c.is_some.ensures ∙ c.if-is_some.false in
+    checked _ _ _ (some d) (sym (rule d c.if-b-n.false) ∙ told) (c.entry_at.ensures ∙ own_at _ _ _ c.in-Some.ensures)

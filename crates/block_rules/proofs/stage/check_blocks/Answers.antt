@@ -2,11 +2,14 @@
 use Prim.Native.Nat.{ℕ}
 use native.Mathlib.Omega.{arith}
 use mathlib.Core.List.{List}
-use Rattle.headers.specs.declared.table.TableHeader.{TableHeader}
-use mathlib.Core.Path.{◌≡◌, sym, ◌∙◌, ap}
+use mathlib.Core.Path.{◌≡◌, refl, sym, ◌∙◌, ap}
 use Rattle.pdi_spec.specs.File.{hash_block}
 use Rattle.pdi_spec.specs.Headers.{Table}
 use Rattle.headers.specs.Headers.{block_of}
+use Rattle.headers.specs.declared.table.TableHeader.{TableHeader}
+use Rattle.refusals.specs.Refusals.{of_image, outcome_of_refusal}
+use Rattle.refusals.specs.declared.Rule.{Rule}
+use Rattle.refusals.proofs.Conversions.{from_rule}
 use Rattle.chain_rules.specs.Chain.{IsTable, file_of}
 use Rattle.chain_rules.proofs.Counts.{counted}
 use Rattle.block_rules.proofs.Blocks.{own_block, block_refused, block_checked, table_broken, starts, kept, broken, onward}
@@ -16,44 +19,32 @@ table_block : (bytes : List ℕ) (t : TableHeader) → IsTable bytes t → block
 unfolding hash_block
 table_block bytes t own = ap (λ (h : Table). h.block) own
 
-pub returns-in_default : goal.returns-in_default
-returns-in_default c =
-    record {
-      told =
-          table_broken _
-          (block_refused _ 0 (table_block _ _ c.requires.chain.own) (sym c.check_block.ensures ∙ c.in_default.is));
-      entries_are = λ e. let z : ◌≡◌ {A = ℕ} 0 1 = cc in absurd (omega arith);
-    }
+pub returns-in_err-check_block-clause-told : goal.returns-in_err-check_block-clause-told
+returns-in_err-check_block-clause-told c =
+    let own = table_block _ _ c.args.chain.now.followed.own in
+    let bad = block_refused _ 0 own (sym c.check_block.ensures ∙ c.in_err-check_block.was) in
+    from_rule c.from_residual.result _ c.from_residual.ensures.1
+    ∙ ap (λ (rule : Rule). outcome_of_refusal (of_image rule)) bad.1
+    ∙ table_broken _ bad.0
 
 pub loop-i-init : goal.loop-i-init
 loop-i-init c =
-    let told = sym c.check_block.ensures ∙ c.in-Checked.is in
-    (omega arith, starts _ _ (block_checked _ 0 (table_block _ _ c.requires.chain.own) told).0 c.requires.room)
+    let told = sym c.check_block.ensures ∙ c.in_ok-check_block.was in
+    starts _ _ (block_checked _ 0 (table_block _ _ c.args.chain.now.followed.own) told).0 refl
 
-pub header_at-h-requires : goal.header_at-h-requires
-header_at-h-requires c = record { chain = c.requires.chain; counted = omega arith }
-
-pub returns-in_default-check_block : goal.returns-in_default-check_block
-returns-in_default-check_block c =
-    record {
-      told =
-          broken _ c.loop-i.invariant.1 (omega (arith, counted c.requires.chain))
-          (block_refused _ _ (own_block _ _ c.header_at-h.ensures)
-          (sym c.check_block-in-loop-i.ensures ∙ c.in_default-check_block.is));
-      entries_are = λ e. let z : ◌≡◌ {A = ℕ} 0 1 = cc in absurd (omega arith);
-    }
-
--- the entry's index is inside the array
-pub bounds-entries-i : goal.bounds-entries-i
-bounds-entries-i c = omega (arith, c.requires.chain.few)
+pub returns-in_default-clause-told : goal.returns-in_default-clause-told
+returns-in_default-clause-told c =
+    broken _ c.loop-i.invariant (omega (arith, counted c.args.chain.now.followed))
+    (block_refused _ _ (own_block _ _ c.header-h.ensures) (sym c.check_block-in-loop-i.ensures ∙ c.in_default.is)).0
 
 pub loop-i-preserved : goal.loop-i-preserved
 loop-i-preserved c =
-    let told = sym c.check_block-in-loop-i.ensures ∙ c.in-Checked-check_block.is in
-    let t = block_checked _ _ (own_block _ _ c.header_at-h.ensures) told in
-    (omega arith, onward _ c.loop-i.invariant.1 (omega (arith, c.requires.chain.few)) t.0 t.1)
+    let told = sym c.check_block-in-loop-i.ensures ∙ c.in-Ok.is in
+    let t = block_checked _ _ (own_block _ _ c.header-h.ensures) told in
+    onward _ c.loop-i.invariant (omega (arith, c.args.chain.now.followed.few)) t.0 t.1
 
-pub returns : goal.returns
-returns c =
-    let a = c.loop-i.invariant.1 in
-    record { told = kept _ a (omega (arith, counted c.requires.chain)); entries_are = λ e i h. a.stored i (omega arith) }
+pub returns-clause-told : goal.returns-clause-told
+returns-clause-told c = kept _ c.loop-i.invariant (omega (arith, counted c.args.chain.now.followed))
+
+pub returns-clause-entries : goal.returns-clause-entries
+returns-clause-entries c = λ i h. c.loop-i.invariant.stored i (omega arith)

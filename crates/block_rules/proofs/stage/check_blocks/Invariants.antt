@@ -1,11 +1,7 @@
--- `block_rules::stage::check_blocks` meets its contract: the loop goes along the file's blocks (Blocks.antt). Assumes nothing.
-use Prim.Native.Nat.{◌-◌, ◌≤◌}
-use Rattle.chain_rules.specs.Chain.{file_of}
+-- `block_rules::stage::check_blocks`: after i partitions, the first blocks of the file are good (Blocks.antt). Assumes nothing.
+use Rattle.chain_rules.specs.File.{file_of_chain}
 use Rattle.block_rules.proofs.Blocks.{BlocksSoFar}
 use Rattle.block_rules.proofs.stage.check_blocks.Given as goal
 
 abbrev pub invariant-loop-i : goal.invariant-loop-i
-invariant-loop-i l = (l.i ≤ l.n) × BlocksSoFar (file_of l.image l.table) l.entries l.i
-
-abbrev pub decreases-loop-i : goal.decreases-loop-i
-decreases-loop-i l = l.n - l.i
+invariant-loop-i l = BlocksSoFar (file_of_chain l.chain) l.entries l.i

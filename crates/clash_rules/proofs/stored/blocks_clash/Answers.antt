@@ -1,36 +1,23 @@
 -- `clash_rules::stored::blocks_clash` meets its contract; where there are no hash blocks nothing clashes. Assumes nothing.
-use native.Mathlib.Omega.{arith}
-use mathlib.Core.List.{[]}
-use mathlib.Core.Path.{◌≡◌, refl, sym, ◌∙◌, ap}
-use Rattle.pdi_spec.specs.Lists.{numbers, any_of, any_pair}
-use Rattle.pdi_spec.specs.Ranges.{hash_blocks, body, bodies}
-use Rattle.chain_rules.specs.Chain.{file_of}
-use Rattle.pairs.specs.Lists.{block_clash, crossing, ranges_in}
-use Rattle.range_lists.specs.Parts.{part_of, parts_of}
-use Rattle.pairs.proofs.Arrays.{and_then}
+use mathlib.Core.List.{map}
+use mathlib.Core.Path.{sym, ◌∙◌, ap}
+use Rattle.std.proofs.Common.{eqb-true}
+use Rattle.pdi_spec.specs.Ranges.{body, bodies}
+use Rattle.ranges.specs.Range.{range_of}
+use Rattle.pairs.specs.Lists.{block_clash}
+use Rattle.range_lists.specs.Parts.{parts_of}
+use Rattle.range_lists.proofs.Joined.{append_on}
+use Rattle.clash_rules.proofs.Lists.{no_blocks, pushed_on_none}
 use Rattle.clash_rules.proofs.stored.blocks_clash.Goals as goal
 
-pub put_parts-beside-requires : goal.put_parts-beside-requires
-put_parts-beside-requires c =
-    record { chain = c.requires.chain; room = c.requires.filled.room; inside = c.requires.inside }
-
-pub any_block_clash-requires : goal.any_block_clash-requires
-any_block_clash-requires c =
-    record {
-      blocks_fit = c.put_blocks-blocks.ensures.fits;
-      ranges_fit = omega (arith, c.put_parts-beside.ensures.counted, c.requires.inside);
-    }
-
-pub returns-then-blocks-eq0 : goal.returns-then-blocks-eq0
-unfolding ranges_in numbers block_clash crossing any_of any_pair
-returns-then-blocks-eq0 c =
-    let a = c.args in
-    let none : hash_blocks (file_of a.image.now a.table) ≡ [] =
-    sym c.put_blocks-blocks.ensures.filled.held ∙ ap (ranges_in _ _) c.if-blocks-eq0.true in
-    rw none refl
+pub returns-then-is_empty : goal.returns-then-is_empty
+returns-then-is_empty c =
+    let none = eqb-true _ 0 (sym c.is_empty.ensures ∙ c.if-is_empty.true) in
+    rw (← pushed_on_none _ c.new-blocks.ensures c.push_blocks.ensures) (sym (no_blocks c.push_blocks.new.ranges.items _ none))
 
 pub returns : goal.returns
-unfolding bodies body parts_of part_of
+unfolding bodies body parts_of
 returns c =
-    let all = and_then _ c.requires.filled c.put_parts-beside.ensures.filled in
-    c.any_block_clash.ensures ∙ (λ i. block_clash (c.put_blocks-blocks.ensures.filled.held i) (all.held i))
+    let blocks = ap (map range_of) c.deref.ensures.0 ∙ pushed_on_none _ c.new-blocks.ensures c.push_blocks.ensures in
+    let all = ap (map range_of) c.deref-2.ensures.0 ∙ append_on _ c.push_parts.ensures.pushed c.requires.headers in
+    c.any_block_clash.ensures ∙ (λ i. block_clash (blocks i) (all i))

@@ -8,23 +8,23 @@ use Rattle.image_rules.specs.Runs.{run_of}
 use Rattle.image_rules.proofs.ImageRuns.{none_left, run_told}
 use Rattle.image_rules.proofs.runs.run_at.Goals as goal
 
-pub returns-then-table-owned : goal.returns-then-table-owned
-returns-then-table-owned c =
-    none_left _ c.args.i (counted c.requires.chain) c.requires.before c.if-table-owned.true
+pub returns-then-headers-owned : goal.returns-then-headers-owned
+returns-then-headers-owned c =
+    none_left _ c.args.i (counted c.requires.chain) c.requires.before c.if-headers-owned.true
 
 pub checksum-sum-requires : goal.checksum-sum-requires
 unfolding image_header image_header_from
 checksum-sum-requires c =
-    omega (arith, ap (λ (h : ImageHeader). h.at) c.image_header_at-h.ensures, c.requires.inside.inside c.args.i c.requires.counted)
+    omega (arith, ap (λ (h : ImageHeader). h.at) c.header-h.ensures, c.args.headers.now.all_inside.inside c.args.i c.requires.counted)
 
 pub returns-then-h-sum : goal.returns-then-h-sum
 unfolding run_of
 returns-then-h-sum c =
-    run_told _ c.args.i (counted c.requires.chain) c.requires.before c.if-table-owned.false c.image_header_at-h.ensures
-    c.checksum-sum.ensures (c.requires.chain.along c.args.owned c.if-table-owned.false) c.if-h-sum.true
+    run_told _ c.args.i (counted c.requires.chain) c.requires.before c.if-headers-owned.false c.header-h.ensures
+    c.checksum-sum.ensures (c.requires.chain.along c.args.owned c.if-headers-owned.false) c.if-h-sum.true
 
 pub returns : goal.returns
 unfolding run_of
 returns c =
-    run_told _ c.args.i (counted c.requires.chain) c.requires.before c.if-table-owned.false c.image_header_at-h.ensures
-    c.checksum-sum.ensures (c.requires.chain.along c.args.owned c.if-table-owned.false) c.if-h-sum.false
+    run_told _ c.args.i (counted c.requires.chain) c.requires.before c.if-headers-owned.false c.header-h.ensures
+    c.checksum-sum.ensures (c.requires.chain.along c.args.owned c.if-headers-owned.false) c.if-h-sum.false

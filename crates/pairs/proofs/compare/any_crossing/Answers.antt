@@ -1,27 +1,20 @@
--- `pairs::compare::any_crossing` meets its contract. The loops' invariants: no block below i overlaps a range, nor block i one below j.
--- Assumes nothing.
-use borrow.Author.Count.{below_more}
-use native.Mathlib.Omega.{arith}
-use mathlib.Core.Path.{sym}
+-- `pairs::compare::any_crossing` meets its contract. Assumes nothing.
+use Rattle.std.proofs.Common.{rules, tests, ◌∙◌, map, sym}
+use Rattle.std.proofs.lemmas.Iterator.{YieldsList-from_slice}
+use Rattle.std.proofs.lemmas.Iterator.Search.{any_from_yields_List}
+use Rattle.pdi_spec.specs.Lists.{any_of}
 use Rattle.pdi_spec.specs.Ranges.{overlap}
-use Rattle.pairs.proofs.Arrays.{crossing_found, no_crossing}
-use Rattle.pairs.proofs.Following.{told}
+use Rattle.ranges.specs.Range.{range_of}
+use Rattle.pairs.specs.Lists.{crossing}
+use Rattle.pairs.proofs.Lists.{any_map}
 use Rattle.pairs.proofs.compare.any_crossing.Goals as goal
 
-pub returns-then-overlap : goal.returns-then-overlap
-returns-then-overlap c =
-    let other = c.range_at-b.ensures in
-    let hit = told overlap c.range_at-a.ensures other c.overlap.ensures c.if-overlap.true in
-    sym (crossing_found _ _ _ _ _ _ c.loop-i.i c.loop-j.j (omega arith) (omega arith) hit)
-
-pub loop-j-preserved : goal.loop-j-preserved
-loop-j-preserved c =
-    let other = c.range_at-b.ensures in
-    let clear = told overlap c.range_at-a.ensures other c.overlap.ensures c.if-overlap.false in
-    below_more _ c.loop-j.j c.loop-j.invariant clear
-
-pub loop-i-preserved : goal.loop-i-preserved
-loop-i-preserved c = below_more _ _ c.loop-i.invariant (λ l h. c.loop-j.invariant l (omega arith))
-
 pub returns : goal.returns
-returns c = sym (no_crossing _ _ _ _ _ _ (λ i j l m. c.loop-i.invariant i (omega arith) j m))
+unfolding crossing
+returns c =
+    any_from_yields_List (λ b. any_of (overlap (range_of b)) (map range_of c.args.ranges.now)) _ _ _ c.any.ensures.ran
+    (YieldsList-from_slice c.args.blocks.now cc) (λ x b q k. search (rules, tests))
+    ∙ any_map range_of _ c.args.blocks.now
+
+pub returns-then-all_apart : goal.returns-then-all_apart
+returns-then-all_apart c = sym (c.all_apart.ensures c.if-all_apart.true)

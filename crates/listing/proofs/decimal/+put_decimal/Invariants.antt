@@ -1,5 +1,0 @@
--- `listing::decimal::put_decimal` ends: its measure is the number. Assumes nothing.
-use Rattle.listing.proofs.decimal.+put_decimal.Given as goal
-
-abbrev pub decreases-put_decimal : goal.decreases-put_decimal
-decreases-put_decimal l = l.n
