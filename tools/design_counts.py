@@ -6,8 +6,9 @@ usage: python3 tools/design_counts.py        every place, as file:line, function
        python3 tools/design_counts.py -s     the totals alone
 
 Comments are left out. A kind is a regular expression over the lines of code, one over clauses, parameters that a function takes together,
-or a list of names. A name counts where src/ still has it (in 1.10, 1.12 and 6.7 with a result of that type), a family of twins where it
-still has two of them, a fact where three functions or more state it, and parameters where three functions or more take them.
+or a list of names, with the new name beside the old one. A name counts where src/ has it (in 1.10, 1.12 and 6.7 with a result of that type),
+a family of twins where it has two of them, a fact where three functions or more state it, parameters where three functions or more take
+them.
 """
 import glob
 import os
@@ -109,19 +110,21 @@ def enums():
 
 # ---- 1. Own enums like Option and Result, flags and sentinels, numbers for kinds and refusals
 show(1, "enums of two cases, one with a value", list(enums()))
-code(1, "such an enum, or a Result, taken apart by hand", r"let \w+::\w+(\(.*\))? = .* else \{|match (inputs::read_full|reading|first)\b")
+code(1, "such an enum, or a Result, taken apart by hand",
+     r"let \w+::\w+(\(.*\))? = .* else \{|let \(?(Ok|Err|Some)\(.* else \{|match (inputs::read_full|reading|first|check|envelope::open)\b")
 code(1, "a number for a refusal", r"Refused\(\d+")
 code(1, "0 for the p of a refusal that has none", r"Refused\(.*, 0\)")
-code(1, "a number for the kind of image", r"\bkind: u32|\.kind [=!]= \d|\.kind as|, t\.kind\)")
+code(1, "a number for the kind of image", r"\bkind: u32|\.kind [=!]= \d|\.kind as|, t\.kind\)|^ +t\.kind,|\(\w+\.kind\),")
 code(1, "a number for the kind of image, made", r"^ +\d$", "headers::kind_of")
 code(1, "a number for the part of a partition", r"const \w+: u8 = \d|part == ")
 LETTERS = [(f.where, f.name) for f in FUNCTIONS if re.search("(part|leaf): u8", f.signature())]
 show(1, "a parameter that is such a number, or a letter", LETTERS)
-code(1, "an attribute field's value, as a bare number", r"\(kind == \d|\(x == \d\)|is_either\(self|\w+_type\(\) == \d|4 < self\.cluster")
+code(1, "an attribute field's value, as a bare number",
+     r"\(kind == \d|\(x == \d\)|matches!\(.* \d|is_either\(self|\w+_type\(\) == \d|4 < self\.cluster")
 named(1, "a number, or an empty range, that stands for none", """words::byte_at keys::place_of block_rules::next_entry
-    block_rules::check_block clash_rules::check_loads image_rules::owner_of range_lists::part_at checks::number_in reader::bill
-    reader::part_of reader::owner reader::answer_of reader::read listing::print leaf_costs::main""",
-      r"-> (u|Range|\w*Answer|io::Result<\(\)>)")
+    block_rules::check_block clash_rules::check_loads image_rules::owner_of range_lists::part_at range_lists::load_of checks::number_in
+    reader::bill reader::part_of reader::owner reader::answer_of reader::read listing::print leaf_costs::main""",
+      r"-> (u|Range|\w*Answer|Result<usize|io::Result<\(\)>)")
 code(1, "a test for such a number", r"1 <= place|own == n|!= n \{|found == 0|answer [!=]= 0|0 < r\.size")
 named(1, "failure as a bool or a number; a value beside its enum", "program::answer program::pdi_run pdi::main envelope::image",
       r"-> (bool|i32|ExitCode|&)")
@@ -150,7 +153,7 @@ chain_rules::Answer checks::Reading
 chain_rules::Link image_rules::Run block_rules::BlockAnswer envelope::Opened program::Input
 pairs::in_order clash_rules::in_order
 pairs::any_clash pairs::any_crossing clash_rules::check_loads
-range_lists::put_parts range_lists::put_blocks
+range_lists::put_parts range_lists::put_blocks range_lists::push_parts range_lists::push_blocks
 reader::bill reader::part_of reader::owner reader::read
 inputs::large_buffer program::input_buffer
 leaf_costs::partition leaf_costs::table leaf_costs::boot leaf_costs::entry
@@ -167,7 +170,7 @@ say(2, f"    functions, types and constants in them, each once: {len({name for f
 
 # ---- 3. Loops that count an index
 code(3, "while", r"\bwhile\b")
-code(3, "for over a range of indices", r"\bfor \w+ in .*\.\.")
+code(3, "for over a range of indices", r"\bfor \w+ in [^&]*\.\.")
 
 # ---- 4. Equality, order, copying, conversion and printing by hand
 named(4, "equality", "ranges::same words::spells_text headers::Block::is_absent attributes::is_either attributes::known_cpu")
@@ -175,8 +178,8 @@ named(4, "order", "header_rules::lower table_rules::not_from")
 named(4, "copying, element by element", """words::put_bytes range_lists::put pairs::range_at rows::put rows::write pdi_host::put_numbers
     listing::put_envelope""")
 named(4, "conversion", """words::wide words::word_of words::word_at words::low words::put_u64 envelope::wide envelope::big_endian_at
-    rows::wide rows::row_at headers::joined headers::kind_of checks::number_in reader::answer_of program::read_input bench_cases::case
-    leaf_costs::partition""")
+    rows::wide rows::row_at rows::Accepted::row headers::joined headers::kind_of checks::number_in reader::answer_of program::read_input
+    bench_cases::case leaf_costs::partition""")
 named(4, "printing", """listing::digit_of listing::put_decimal listing::put_number listing::mark_after listing::put_line listing::put_rows
     listing::put_buffer listing::put_answer listing::put_reading""")
 CASTS = [m for _, _, t in LINES for m in re.findall(r"(\S+) as (u8|u32|u64|usize)\b", t)]
@@ -185,21 +188,21 @@ SMALL = [e for e, t in CASTS if {"u32": e == "x", "usize": e in ("x", "16)"), "u
 say(4, f"    casts, counted apart: {len(CASTS)}; of a smaller type to one that has From for it: {len(SMALL)}")
 
 # ---- 5. Facts in the contracts of three or more functions, parameters that travel together
-FACTS = """the offsets are the chain's @ requires.*\\{ Chain image
+FACTS = """the offsets are the chain's @ requires.*\\{ (Is)?Chain \\w
 the headers of all images lie inside @ requires.*ImageHeadersInside
 the table is the one at its place @ requires.*IsTable
 there is room for each partition's offset @ requires.*length offsets\\.old ≡ most_partitions
 there is room for each partition's entry @ requires.*length entries\\.old ≡ most_partitions
 the entries are those of the hash blocks @ requires.*\\{ Entries image
-the index is that of a partition or an image @ requires.*i < table\\.(partitions|images)
+the index is that of a partition or an image @ requires.*i < (\\w+\\.)*table\\.(partitions|images)
 ranges are most_ranges at most @ requires.*[≤<] most_ranges
 both arrays have room for the ranges @ requires.*\\{ Room
-the first so many ranges in both arrays are these @ Filled
+the first so many ranges in both arrays are these @ Filled|ranges\\.(old|new)\\.items ≡
 a header or an entry lies inside the image @ requires.*(header_size|entry_size|boot_size) ≤ length
 a word lies inside the slice @ requires.* 3 < length
 the row buffer has a head and rows @ requires.*row_width.* ≤ length rows
-the text has room from the offset on @ requires.*≤ length out\\.old
-the text is stored, and its end is answered @ ensures writes.*out\\.new ≡ sets
+the text has room from the offset on @ requires.*(≤ length out\\.old|array_string_len text\\.old.* ≤ LONGEST)
+the text is stored, and its end is answered @ ensures.*(out\\.new ≡ sets|text\\.new\\.bytes ≡)
 what was read lies at the start of the buffer @ ensures within"""
 for line in FACTS.split("\n"):
     found = stating(line.split(" @ ")[1])
@@ -223,9 +226,9 @@ code(6, "two arrays, of starts and of sizes, made", r"let mut (block_)?(starts|s
 show(6, "offsets (and entries), as many as the table says, taken", taking("offsets"))
 code(6, "offsets and entries, made", r"let mut (offsets|entries) = \[")
 named(6, "a buffer with its length beside", """words::checksum words::boot_checksum words::put_bytes rows::put_rows rows::write
-    pdi_host::put_numbers pdi_host::pdi_read listing::put_rows listing::put_buffer listing::put_reading listing::print program::read_input
-    program::answer program::pdi_run inputs::read_on inputs::read_full bench_cases::read_into bench_cases::ask bench_cases::main
-    leaf_costs::main""")
+    rows::Accepted::write_rows rows::Accepted::write pdi_host::put_numbers pdi_host::pdi_read listing::put_rows listing::put_buffer
+    listing::push_buffer listing::put_reading listing::push_reading listing::print program::read_input program::answer program::pdi_run
+    inputs::read_on inputs::read_full bench_cases::read_into bench_cases::ask bench_cases::main leaf_costs::main""")
 show(6, "a buffer of text, and the offset behind what it has", taking("out at"))
 named(6, "a list searched by hand", "keys::place_of block_rules::next_entry image_rules::owner_of", r"-> u")
 code(6, "a field that is an index into the image", r"pub (at|place): usize,")

@@ -81,7 +81,7 @@ fn cases(rt: &impl Print, input: &[u8]) -> io::Result<()> {
 }
 
 fn main(rt: HostRuntime) -> io::Result<()> {
-    let mut input = inputs::large_buffer();
+    let mut input = inputs::buffer::<65_536>();
     let n = inputs::read_full(&mut rt.stdin(), &mut input)?;
     cases(&rt, &input[..n])
 }

@@ -11,6 +11,7 @@ use refusals::Rule;
 const MOST_ENTRIES: u32 = (MOST_PARTITIONS as u32) + 1;
 
 // How many entries a block's size stands for.
+#[tactic(auto, unfolding(pdi_spec::specs::HashBlock::entries_in))]
 fn entries_in(b: Block) -> u32
     ensures { result ≡ entries_in b.size }
 {
@@ -18,13 +19,15 @@ fn entries_in(b: Block) -> u32
 }
 
 // n entries, rounded up to a multiple of 16 bytes.
+#[tactic(auto, unfolding(pdi_spec::specs::HashBlock::size_of_entries))]
 fn size_of_entries(n: u32) -> u64
     ensures { result ≡ size_of_entries n }
 {
-    ((HashEntry::SIZE as u64) * (n as u64) + 15) / 16 * 16
+    ((HashEntry::SIZE as u64) * u64::from(n) + 15) / 16 * 16
 }
 
 // The byte offset of entry k, counted from 0. That k is a u32 keeps the sum below 2^64.
+#[tactic(auto, unfolding(pdi_spec::specs::HashBlock::entry_at))]
 fn entry_at(b: Block, k: u32) -> usize
     ensures { result ≡ entry_at (block_of b) k }
 {
@@ -32,6 +35,7 @@ fn entry_at(b: Block, k: u32) -> usize
 }
 
 // Entry k has the index i.
+#[tactic(auto, unfolding(pdi_spec::specs::HashBlock::has_index, headers::specs::Headers::entry_from))]
 fn has_index(image: &[u8], b: Block, i: usize, k: u32) -> bool
     requires { entry_at (block_of b) k + entry_size ≤ length image.now }
     ensures { result ≡ has_index image.now (block_of b) i k }
@@ -41,20 +45,17 @@ fn has_index(image: &[u8], b: Block, i: usize, k: u32) -> bool
 }
 
 // The first entry from `from` on with the index i, of a block inside the image.
+#[tactic(auto, unfolding(pdi_spec::specs::HashBlock::entries_in, pdi_spec::specs::HashBlock::entry_at))]
 fn next_entry(image: &[u8], b: Block, i: usize, from: u32) -> Option<u32>
     requires { 4 * b.offset + b.size ≤ length image.now }
     ensures { NextEntry image.now (block_of b) i from result }
 {
-    for k in from..entries_in(b) {
-        if has_index(image, b, i, k) {
-            return Some(k);
-        }
-    }
-    None
+    (from..entries_in(b)).find(|k| has_index(image, b, i, *k))
 }
 
 // Rule 17, of the block of index i: exactly one of its entries has that index, and its byte offset is answered, or 0 where there is no
 // block. Only a block that lies well is searched.
+#[tactic(auto, using(crate::proofs::Block::one_block))]
 pub(crate) fn check_block(image: &[u8], i: usize, b: Block) -> Result<usize, Rule>
     ensures { result ≡ block_answer image.now i (block_of b) }
 {
@@ -65,7 +66,7 @@ pub(crate) fn check_block(image: &[u8], i: usize, b: Block) -> Result<usize, Rul
     if (b.size == 0)
         | (b.offset == 0)
         | ((n < 1) | (MOST_ENTRIES < n))
-        | (b.size as u64 != size_of_entries(n))
+        | (u64::from(b.size) != size_of_entries(n))
         | ranges::past(image.len() as u64, b.range())
     {
         return Err(Rule::HashBlockWrong);

@@ -12,6 +12,7 @@ use headers::MOST_PARTITIONS;
 use refusals::{Refusal, Rule};
 
 // The byte offset of each partition's own entry, 0 where it has no block. The table's own block has index 0, partition p's index p.
+#[tactic(auto, using(crate::proofs::Blocks::kept, chain_rules::proofs::Counts::count_is))]
 pub fn check_blocks(chain: &Chain) -> Result<[usize; MOST_PARTITIONS], Refusal>
     ensures told { outcome_of result ≡ verdict (rule17 ∷ []) (file_of_chain chain.now) }
     ensures entries { IfOk result (λ entries. Entries chain.now.image.now chain.now.table entries) }

@@ -1,10 +1,5 @@
 -- Rule 10 along a file's chain: what the loop keeps after i links, and what it answers. Assumes nothing.
-use Prim.Native.Nat.{ℕ, ◌+◌, ◌*◌, ◌≤◌, ◌<◌}
-use native.Mathlib.Omega.{arith}
-use mathlib.Core.List.{List, [], ◌∷◌}
-use mathlib.Core.Path.{◌≡◌, sym, ◌∙◌, ap}
-use lib.ListN.{length, get_or, set, length-set}
-use Rattle.std.specs.Prelude.{None, Some}
+use Rattle.std.proofs.Common.{ℕ, ◌+◌, ◌*◌, ◌≤◌, ◌<◌, arith, List, [], ◌∷◌, ◌≡◌, sym, ◌∙◌, ap, length, get_or, set, length-set, Option, None, Some}
 use Rattle.pdi_spec.specs.File.{File, partitions, partition_numbers, header_at}
 use Rattle.pdi_spec.specs.Headers.{header_size}
 use Rattle.pdi_spec.specs.Limits.{most_partitions}
@@ -15,6 +10,7 @@ use Rattle.pdi_spec.proofs.Laws.Lists.{stored_more}
 use Rattle.pdi_spec.proofs.Laws.Searches.{NoneOf, none_yet, one_more, found, not_found}
 use Rattle.chain_rules.specs.Chain.{link_at}
 use Rattle.chain_rules.proofs.Links.{next_at, link_broken, link_next, header_inside}
+use Rattle.chain_rules.proofs.Counts.{count_is, first_is}
 use Rattle.chain_rules.proofs.Verdicts.{one_broken, one_kept}
 
 -- header k, at this offset, lies where the chain says, all inside
@@ -45,16 +41,18 @@ module _ (f : File) {offsets : List ℕ} {at i : ℕ} (so_far : ChainSoFar f off
       ∙ one_broken rule10 f
       (found (chain_broken f) 1 (partitions f) i so_far.none l (ap (chain_broken f) same ∙ link_broken f (i + 1) e))
 
-  pub onward : i < most_partitions → {next : ℕ} → link_at f (i + 1) ≡ Some next → ChainSoFar f (set offsets i at) (4 * next) (i + 1)
-  onward l e =
-      let t = link_next f (i + 1) e in
+  pub onward : i < most_partitions → {link : Option ℕ} → link ≡ link_at f (i + 1) → {next : ℕ} → link ≡ Some next
+      → ChainSoFar f (set offsets i at) (4 * next) (i + 1)
+  onward l told e =
+      let t = link_next f (i + 1) (sym told ∙ e) in
       let same : 1 + i ≡ i + 1 = omega arith in
+      let here : Lies f i at = (so_far.next, omega (arith, so_far.next, header_inside f (i + 1) t.0)) in
       record {
         none = one_more (chain_broken f) 1 i so_far.none (ap (chain_broken f) same ∙ t.0);
-        stored = stored_more (Lies f) offsets i at (omega (arith, so_far.room)) so_far.stored (here (header_inside f (i + 1) t.0));
+        stored = stored_more (Lies f) offsets i at (omega (arith, so_far.room)) so_far.stored here;
         next = ap (λ (n : ℕ). 4 * n) t.1 ∙ sym (next_at f i);
         room = length-set offsets i at ∙ so_far.room;
       }
-    where
-      here : header_at f (i + 1) + header_size ≤ length f.bytes → Lies f i at
-      here h = (so_far.next, omega (arith, so_far.next))
+
+-- what the loop's start and its two answers need
+pub ruleset along = (starts, kept, broken, count_is, first_is)

@@ -1,20 +1,16 @@
 -- One link of a file's chain: what is tested of it is rule 10's condition, and where the next header lies. Assumes nothing.
-use Prim.Native.Nat.{ℕ, ◌+◌, ◌*◌, ◌≤◌}
-use native.Mathlib.Numerals.{add-one}
-use native.Mathlib.Omega.{arith}
-use mathlib.Core.Bool.{Bool, true, false, not, ◌&&◌, ◌||◌, or-false}
-use mathlib.Core.Path.{◌≡◌, refl}
-use Rattle.std.specs.Prelude.{None, Some}
-use borrow.Author.Tests.{ltb-false}
-use lib.Dec.{eqb, ltb}
-use lib.ListN.{length}
+use Rattle.std.proofs.Common.{ℕ, List, ap, ◌∙◌, ◌+◌, ◌*◌, ◌≤◌, add-one, Bool, true, false, not, ◌&&◌, ◌||◌, ◌≡◌, refl, None, Some, ltb-false, eqb, ltb, length}
+use Rattle.std.proofs.Math.Bool.{or-false}
 use Rattle.pdi_spec.specs.File.{File, partitions, header, header_at}
-use Rattle.pdi_spec.specs.Headers.{header_size, header_from}
+use Rattle.pdi_spec.specs.Headers.{Table, Header, header_size, header_from}
 use Rattle.pdi_spec.specs.Lists.{any_true}
 use Rattle.pdi_spec.specs.Ranges.{end_of, past}
 use Rattle.pdi_spec.specs.Rules.{chain_broken}
 use Rattle.pdi_spec.proofs.Laws.Tests.{false_at}
-use Rattle.chain_rules.specs.Chain.{link_of, link_at}
+use Rattle.headers.specs.Headers.{header_of}
+use Rattle.headers.specs.declared.table.TableHeader.{TableHeader}
+use Rattle.headers.specs.declared.partition.PartitionHeader.{PartitionHeader}
+use Rattle.chain_rules.specs.Chain.{IsTable, file_of, link_of, link_at}
 
 pub next_at : (f : File) (i : ℕ) → header_at f (i + 1 + 1) ≡ 4 * (header f (i + 1)).next
 unfolding header_at header
@@ -24,42 +20,56 @@ pub ends_inside : (limit at : ℕ) → past limit (record { start = at; size = h
 unfolding past end_of
 ends_inside limit at e = ltb-false limit (at + header_size) e
 
-module _ (f : File) (p : ℕ) {at : ℕ} (place : at ≡ header_at f p) where
-  pub outside : past (length f.bytes) (record { start = at; size = header_size }) ≡ true → None ≡ link_at f p
+-- the code's two tests of the chain's end
+abbrev ends : ℕ → ℕ → ℕ → Bool
+ends p n next = (ltb p n && eqb next 0) || (eqb p n && not (eqb next 0))
+
+module _ (bytes : List ℕ) (t : TableHeader) (p : ℕ) {at : ℕ} (place : at ≡ header_at (file_of bytes t) p) where
+  pub outside : past (length bytes) (record { start = at; size = header_size }) ≡ true → None ≡ link_at (file_of bytes t) p
   unfolding link_at link_of chain_broken any_true header header_from
   outside e = let e' = rw place at e in rw e' refl
 
-  -- the code's two tests of the chain's end
-  abbrev pub ends : ℕ → ℕ → Bool
-  ends n next = (ltb p n && eqb next 0) || (eqb p n && not (eqb next 0))
+  module _ (own : IsTable bytes t) (e : past (length bytes) (record { start = at; size = header_size }) ≡ false) {h : PartitionHeader}
+      (read : header_of h ≡ header_from bytes at) where
+    inside : {b : Bool} → ends p t.partitions h.next ≡ b → link_of b h.next ≡ link_at (file_of bytes t) p
+    unfolding link_at chain_broken any_true header header_from partitions
+    inside x =
+        let count = ap (λ (u : Table). u.partitions) own in
+        let next = ap (λ (u : Header). u.next) (read ∙ ap (header_from bytes) place) in
+        let e' = rw place at e in
+        rw (← x, count, next, e', or-false) refl
 
-  module _ (e : past (length f.bytes) (record { start = at; size = header_size }) ≡ false) where
-    ends_broken : ends (partitions f) (header f p).next ≡ chain_broken f p
-    unfolding chain_broken any_true header header_from
-    ends_broken = let e' = rw place at e in rw (e', or-false) refl
+    pub inside_none : ends p t.partitions h.next ≡ true → None ≡ link_at (file_of bytes t) p
+    unfolding link_of
+    inside_none x = inside x
 
-    pub inside : {n next : ℕ} → n ≡ partitions f → next ≡ (header f p).next → {b : Bool} → ends n next ≡ b → link_of b next ≡ link_at f p
-    unfolding link_at
-    inside count is-next t = rw (← t, count, is-next, ends_broken) refl
+    pub inside_some : ends p t.partitions h.next ≡ false → Some h.next ≡ link_at (file_of bytes t) p
+    unfolding link_of
+    inside_some x = inside x
+
+-- what the function `link_at` needs
+pub ruleset one_link = (ends_inside, outside, inside_none, inside_some)
 
 -- ---- what a link tells
 
+broken_only : (b : Bool) (next : ℕ) → link_of b next ≡ None → b ≡ true
+unfolding link_of
+broken_only true next e = refl
+broken_only false next e = cc
+
+next_only : (b : Bool) {here next : ℕ} → link_of b here ≡ Some next → (b ≡ false) × (next ≡ here)
+unfolding link_of
+next_only true e = absurd (cc)
+next_only false e = (refl, cc)
+
 module _ (f : File) (p : ℕ) where
   pub link_broken : link_at f p ≡ None → chain_broken f p ≡ true
-  unfolding link_at link_of
-  link_broken e = go (chain_broken f p) e
-    where
-      go : (b : Bool) → link_of b (header f p).next ≡ None → b ≡ true
-      go true q = refl
-      go false q = let z : ◌≡◌ {A = ℕ} 0 1 = cc in absurd (omega arith)
+  unfolding link_at
+  link_broken e = broken_only _ _ e
 
   pub link_next : {next : ℕ} → link_at f p ≡ Some next → (chain_broken f p ≡ false) × (next ≡ (header f p).next)
-  unfolding link_at link_of
-  link_next {next} e = go (chain_broken f p) e
-    where
-      go : (b : Bool) → link_of b (header f p).next ≡ Some next → (b ≡ false) × (next ≡ (header f p).next)
-      go true q = let z : ◌≡◌ {A = ℕ} 0 1 = cc in absurd (omega arith)
-      go false q = (refl, cc)
+  unfolding link_at
+  link_next e = next_only _ e
 
   pub header_inside : chain_broken f p ≡ false → header_at f p + header_size ≤ length f.bytes
   unfolding chain_broken header header_from

@@ -1,8 +1,6 @@
 -- The verdict of one rule, from the first p that breaks it. Assumes nothing.
-use Prim.Native.Nat.{ℕ}
-use mathlib.Core.List.{[], ◌∷◌}
-use mathlib.Core.Option.{none, some}
-use mathlib.Core.Path.{◌≡◌, sym}
+use Rattle.std.proofs.Common.{ℕ, [], ◌∷◌, ◌≡◌, sym}
+use Rattle.std.proofs.Math.Option.{none, some}
 use Rattle.pdi_spec.specs.File.{File}
 use Rattle.pdi_spec.specs.Lists.{first_of}
 use Rattle.pdi_spec.specs.Verdict.{Rule, accepted, refused, verdict, Kept}

@@ -14,6 +14,7 @@ use refusals::{Refusal, Rule};
 
 // The word offset of the header after partition p's, whose header lies at a byte offset: 0 at the last. None where the header is past the
 // image, or the chain ends here too early or too late.
+#[tactic(auto, using(crate::proofs::Links::one_link))]
 fn link_at(image: &[u8], table: TableHeader, p: usize, at: usize) -> Option<u32>
     requires own { IsTable image.now table }
     requires place { at ≡ header_at (file_of image.now table) p }
@@ -35,6 +36,7 @@ fn link_at(image: &[u8], table: TableHeader, p: usize, at: usize) -> Option<u32>
 }
 
 // Follows the chain and finds where each header lies.
+#[tactic(auto, using(crate::proofs::Chains::along))]
 pub fn check_chain(image: &[u8], table: TableHeader) -> Result<Chain<'_>, Refusal>
     requires own { IsTable image.now table }
     requires few { table.partitions ≤ most_partitions }

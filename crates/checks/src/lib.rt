@@ -19,6 +19,7 @@ use rows::Accepted;
 const LONGEST: usize = 1_073_741_824;
 
 // Rules 10 to 20, of a table that keeps the others.
+#[tactic(auto, using(crate::proofs::Stages::stages))]
 fn check_partitions(image: &[u8], table: TableHeader) -> Result<Accepted<'_>, Refusal>
     requires few { table.partitions ≤ most_partitions }
     requires images { ImageHeadersInside image.now table }
@@ -40,6 +41,7 @@ fn check_partitions(image: &[u8], table: TableHeader) -> Result<Accepted<'_>, Re
 }
 
 // The rules in their order: 1, then 2 where a row buffer is too short, then those of the image itself.
+#[tactic(auto, using(crate::proofs::Outcomes::outcomes))]
 pub fn check(image: &[u8], place: usize, short: bool) -> Result<Accepted<'_>, Refusal>
     ensures told { outcome_of result ≡ verdict (core_rules short plain_rules) (asked image.now place) }
     ensures held { IfOk result (Held image.now place) }

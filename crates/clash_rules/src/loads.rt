@@ -11,6 +11,7 @@ use ranges::Range;
 use refusals::{Refusal, Rule};
 
 // Each load range starts at or after the end of the one before it: a quick yes, after which none meet. A no says nothing.
+#[tactic(auto, using(crate::proofs::Meetings::loads_apart))]
 fn in_order(chain: &Chain) -> bool
     ensures { result ≡ true → verdict (rule19 ∷ []) (file_of_chain chain.now) ≡ accepted }
 {
@@ -28,6 +29,7 @@ fn in_order(chain: &Chain) -> bool
 }
 
 // Rule 19. Only load ranges out of order need every pair.
+#[tactic(auto, using(crate::proofs::Meetings::loads_apart))]
 pub fn check_loads(chain: &Chain) -> Result<(), Refusal>
     ensures { outcome_of result ≡ verdict (rule19 ∷ []) (file_of_chain chain.now) }
 {

@@ -12,10 +12,11 @@ ghost use Rattle.chain_rules.specs.File.{file_of_chain};
 ghost use Rattle.pairs.specs.Lists.{block_clash, most_ranges};
 
 use chain_rules::Chain;
-use range_lists::{Part, Ranges, push_blocks, push_headers, push_parts};
+use range_lists::{Part, Ranges, push_parts, put_blocks, put_headers};
 use refusals::Rule;
 
 // Hash blocks clash with headers or bodies, or with each other. The list has the headers, and gets the bodies after them.
+#[tactic(auto, using(crate::proofs::Lists::no_blocks, crate::proofs::Lists::blocks_told))]
 fn blocks_clash(chain: &Chain, ranges: &mut Ranges) -> bool
     requires headers { map range_of ranges.old.items ≡ header_ranges (file_of_chain chain.now) }
     requires room { array_vec_len ranges.old + chain.now.table.partitions ≤ most_ranges }
@@ -23,7 +24,7 @@ fn blocks_clash(chain: &Chain, ranges: &mut Ranges) -> bool
         (header_ranges (file_of_chain chain.now) ++ bodies (file_of_chain chain.now)) }
 {
     let mut blocks = Ranges::new();
-    push_blocks(chain, &mut blocks);
+    put_blocks(chain, &mut blocks);
     if blocks.is_empty() {
         return false;
     }
@@ -32,11 +33,12 @@ fn blocks_clash(chain: &Chain, ranges: &mut Ranges) -> bool
 }
 
 // Some two ranges clash that rule 18 wants disjoint.
+#[tactic(auto, using(crate::proofs::Lists::stored_laws))]
 fn stored_clash(chain: &Chain) -> bool
     ensures { result ≡ stored_ranges_clash (file_of_chain chain.now) }
 {
     let mut ranges = Ranges::new();
-    push_headers(chain, &mut ranges);
+    put_headers(chain, &mut ranges);
     let headers = ranges.len();
     push_parts(chain, Part::Span, &mut ranges);
     if pairs::any_clash(&ranges, false) {
@@ -47,6 +49,7 @@ fn stored_clash(chain: &Chain) -> bool
 }
 
 // Rule 18.
+#[tactic(auto, using(crate::proofs::Lists::stored_broken, crate::proofs::Lists::stored_kept))]
 pub fn check_stored(chain: &Chain) -> Result<(), Rule>
     ensures { image_outcome_of result ≡ verdict (rule18 ∷ []) (file_of_chain chain.now) }
 {

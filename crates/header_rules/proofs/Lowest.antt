@@ -1,35 +1,28 @@
 -- The lowest rule that some header breaks, one header after another: what the loop over the headers keeps. Assumes nothing.
-use Prim.Native.Nat.{ℕ, zero, suc, ◌+◌, ◌≤◌, ◌<◌}
-use native.Mathlib.Numerals.{add-one}
-use native.Mathlib.Omega.{arith}
-use mathlib.Core.Bool.{Bool, true, false, cond}
-use mathlib.Core.List.{List, [], ◌∷◌}
-use mathlib.Core.Option.{Option, none, some, Option-elim}
-use mathlib.Core.Path.{◌≡◌, refl, sym, ◌∙◌, ap}
-use borrow.Author.Tests.{lt-ltb, le-ltb}
+use Rattle.std.proofs.Common.{ℕ, zero, suc, ◌+◌, ◌≤◌, ◌<◌, add-one, arith, Bool, true, false, cond, List, [], ◌∷◌, ◌≡◌, refl, sym, ◌∙◌, ap, lt-ltb, le-ltb}
+use Rattle.std.proofs.Math.Option.{Option, none, some, Option-elim}
 use Rattle.pdi_spec.specs.File.{File, partitions, partition_numbers}
 use Rattle.pdi_spec.specs.Lists.{numbers, first_of}
 use Rattle.pdi_spec.specs.RuleList.{header_rules}
 use Rattle.pdi_spec.specs.Verdict.{Rule, each, Outcome, accepted, refused, verdict, first_broken}
+use Rattle.chain_rules.proofs.Counts.{count_is}
 use Rattle.header_rules.specs.Headers.{verdict_up_to, lower_of}
+
+-- an entry that is tried first comes before what the later ones tell
+tried_first : (b : Bool) (x : ℕ) (found last : Option ℕ) {more : Option ℕ} → more ≡ Option-elim found last some
+    → cond b (some x) more ≡ Option-elim (cond b (some x) found) last some
+unfolding Option-elim
+tried_first true x found last e = refl
+tried_first false x found last e = e
 
 -- a search among one number more
 first_more : (test : ℕ → Bool) (a n : ℕ) → first_of test (numbers a (suc n))
     ≡ Option-elim (first_of test (numbers a n)) (cond (test (a + n)) (some (a + n)) none) some
 unfolding first_of numbers Option-elim
-first_more test a zero = ap (λ (x : ℕ). cond (test x) (some x) none) {x = a} {y = a + 0} (omega arith)
-first_more test a (suc n) = go (test a) (first_more test (suc a) n)
-  where
-    go : (b : Bool)
-        → first_of test (numbers (suc a) (suc n))
-        ≡ Option-elim (first_of test (numbers (suc a) n)) (cond (test (suc a + n)) (some (suc a + n)) none) some
-        → cond b (some a) (first_of test (numbers (suc a) (suc n)))
-        ≡ Option-elim (cond b (some a) (first_of test (numbers (suc a) n))) (cond (test (a + suc n)) (some (a + suc n)) none) some
-    go true ih = refl
-    go false ih =
-        ih
-        ∙ ap (λ (x : ℕ). Option-elim (first_of test (numbers (suc a) n)) (cond (test x)
-        (some x) none) some) {x = suc a + n} {y = a + suc n} (omega arith)
+first_more test a zero = let same : a + 0 ≡ a = omega arith in rw same refl
+first_more test a (suc n) =
+    let same : a + suc n ≡ suc a + n = omega arith in
+    rw same (tried_first (test a) a _ _ (first_more test (suc a) n))
 
 -- the rules' numbers follow each other, from k on
 abbrev pub From : ℕ → List Rule → Type 0
@@ -40,21 +33,21 @@ module _ (f : File) where
   -- so nothing below k is broken, at any p
   number_least : (rs : List Rule) (k p : ℕ) → From k rs → {m : ℕ} → first_broken rs f p ≡ some m → k ≤ m
   unfolding first_broken
-  number_least [] k p h e = let z : ◌≡◌ {A = ℕ} 0 1 = cc in absurd (omega arith)
+  number_least [] k p h e = absurd (cc)
   number_least (r ∷ rs) k p h {m} e = go (λ q. number_least rs (suc k) p h.1 q) (r.broken f p) e
     where
       go : (first_broken rs f p ≡ some m → suc k ≤ m) → (b : Bool) → cond b (some r.number) (first_broken rs f p) ≡ some m → k ≤ m
-      go ih true q = let same : r.number ≡ m = cc in omega (arith, same, h.0)
+      go ih true q = let same : r.number ≡ m = cc in omega (arith, h.0)
       go ih false q = omega (arith, ih q)
 
   refusal_least : (rs : List Rule) (k n : ℕ) → From k rs → {m q : ℕ} → verdict_up_to rs f n ≡ refused m q → k ≤ m
   unfolding verdict_up_to Option-elim
-  refusal_least [] k n h e = let z : ◌≡◌ {A = ℕ} 0 1 = cc in absurd (omega arith)
+  refusal_least [] k n h e = absurd (cc)
   refusal_least (r ∷ rs) k n h {m} {q} e = go (λ t. refusal_least rs (suc k) n h.1 t) (first_of (r.broken f) (numbers 1 n)) e
     where
       go : (verdict_up_to rs f n ≡ refused m q → suc k ≤ m) → (o : Option ℕ)
           → Option-elim o (verdict_up_to rs f n) (refused r.number) ≡ refused m q → k ≤ m
-      go ih (some x) t = let same : r.number ≡ m = cc in omega (arith, same, h.0)
+      go ih (some x) t = let same : r.number ≡ m = cc in omega (arith, h.0)
       go ih none t = omega (arith, ih t)
 
 -- a refusal stays where no lower number is found, and a number takes the place of any higher refusal
@@ -101,6 +94,9 @@ next f i =
     ∙ lower_next f header_rules 11 i (refl, (refl, (refl, (refl, (refl, (refl, tt))))))
     ∙ ap (verdict_up_to header_rules f) (sym (add-one i))
 
-pub ends : (f : File) → verdict_up_to header_rules f (partitions f) ≡ verdict header_rules f
+pub ends : (f : File) {n : ℕ} → n ≡ partitions f → verdict_up_to header_rules f n ≡ verdict header_rules f
 unfolding verdict_up_to header_rules verdict each partition_numbers
-ends f = refl
+ends f e = rw e refl
+
+-- what the loop over the headers needs
+pub ruleset one_more = (starts, next, ends, count_is)

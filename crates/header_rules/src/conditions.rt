@@ -10,6 +10,7 @@ use headers::{HashEntry, PartitionHeader};
 use ranges::Range;
 
 // Rule 11.
+#[tactic(auto, unfolding(pdi_spec::specs::Rules::header_checksum_bad))]
 pub(crate) fn header_checksum_bad(image: &[u8], h: PartitionHeader) -> bool
     requires { h.at + header_size ≤ length image.now }
     ensures { result ≡ header_checksum_bad image.now (header_of h) }
@@ -18,6 +19,7 @@ pub(crate) fn header_checksum_bad(image: &[u8], h: PartitionHeader) -> bool
 }
 
 // Rule 12.
+#[tactic(auto, unfolding(pdi_spec::specs::Rules::attributes_bad))]
 pub(crate) fn attributes_bad(h: PartitionHeader) -> bool
     ensures { result ≡ attributes_bad (header_of h) }
 {
@@ -26,6 +28,7 @@ pub(crate) fn attributes_bad(h: PartitionHeader) -> bool
 }
 
 // Rule 13.
+#[tactic(auto, unfolding(pdi_spec::specs::Rules::key_unknown))]
 pub(crate) fn key_unknown(h: PartitionHeader) -> bool
     ensures { result ≡ key_unknown (header_of h) }
 {
@@ -33,6 +36,7 @@ pub(crate) fn key_unknown(h: PartitionHeader) -> bool
 }
 
 // Rule 14.
+#[tactic(auto, unfolding(pdi_spec::specs::Rules::lengths_bad, pdi_spec::specs::Lists::any_true))]
 pub(crate) fn lengths_bad(h: PartitionHeader) -> bool
     ensures { result ≡ lengths_bad (header_of h) }
 {
@@ -44,6 +48,7 @@ pub(crate) fn lengths_bad(h: PartitionHeader) -> bool
 }
 
 // Rule 15.
+#[tactic(auto, unfolding(pdi_spec::specs::Rules::span_outside))]
 pub(crate) fn span_outside(image: &[u8], h: PartitionHeader) -> bool
     ensures { result ≡ span_outside image.now (header_of h) }
 {
@@ -53,13 +58,14 @@ pub(crate) fn span_outside(image: &[u8], h: PartitionHeader) -> bool
             & ranges::past(
                 image.len() as u64,
                 Range {
-                    start: 4 * (h.checksum_offset as u64),
+                    start: 4 * u64::from(h.checksum_offset),
                     size: HashEntry::DIGEST_SIZE as u64,
                 },
             ))
 }
 
 // Rule 16.
+#[tactic(auto, unfolding(pdi_spec::specs::Rules::load_address_bad))]
 pub(crate) fn load_address_bad(h: PartitionHeader) -> bool
     ensures { result ≡ load_address_bad (header_of h) }
 {

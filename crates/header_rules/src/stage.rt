@@ -14,6 +14,7 @@ use refusals::{Refusal, Rule};
 
 // The header of partition i + 1, or the lowest rule that it breaks: the tests run in the order of their numbers, so the first that is true
 // has the lowest.
+#[tactic(auto, unfolding(pdi_spec::specs::RuleList::header_rules, pdi_spec::specs::Verdict::each, pdi_spec::specs::Verdict::first_broken))]
 fn check_header(chain: &Chain, i: usize) -> Result<PartitionHeader, Rule>
     requires { i < chain.now.table.partitions }
     ensures { HeaderTold (file_of_chain chain.now) (i + 1) result }
@@ -42,6 +43,7 @@ fn check_header(chain: &Chain, i: usize) -> Result<PartitionHeader, Rule>
 }
 
 // The lower of what the earlier headers and partition p's header say; of equal numbers the earlier partition stays.
+#[tactic(auto, unfolding(crate::specs::Headers::lower_of))]
 fn lower(
     earlier: Result<(), Refusal>,
     found: Result<PartitionHeader, Rule>,
@@ -63,6 +65,7 @@ fn lower(
 }
 
 // Rules 11 to 16 of every header.
+#[tactic(auto, using(crate::proofs::Lowest::one_more))]
 pub fn check_headers(chain: &Chain) -> Result<(), Refusal>
     ensures { outcome_of result ≡ verdict header_rules (file_of_chain chain.now) }
 {

@@ -6,7 +6,6 @@ ghost use Rattle.pdi_spec.specs.Ranges.{block_range};
 ghost use Rattle.headers.specs.Headers.{block_of};
 ghost use Rattle.ranges.specs.Range.{range_of};
 
-use crate::field;
 use ranges::Range;
 
 // Its size in bytes, its offset in words.
@@ -23,13 +22,14 @@ impl Block {
     pub const OFFSET: usize = 0x64;
 
     // The block that the header at a place names.
+    #[tactic(auto, unfolding(pdi_spec::specs::Headers::block_from))]
     pub fn read(image: &[u8], place: usize) -> Block
         requires { place + header_size ≤ length image.now }
         ensures { block_of result ≡ block_from image.now place }
     {
         Block {
-            size: field::word(image, place, Self::LENGTH),
-            offset: field::word(image, place, Self::OFFSET),
+            size: words::word_at(image, place + Self::LENGTH),
+            offset: words::word_at(image, place + Self::OFFSET),
         }
     }
 
@@ -45,8 +45,8 @@ impl Block {
         ensures { range_of result ≡ block_range (block_of self) }
     {
         Range {
-            start: 4 * (self.offset as u64),
-            size: self.size as u64,
+            start: 4 * u64::from(self.offset),
+            size: u64::from(self.size),
         }
     }
 }

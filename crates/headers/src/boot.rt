@@ -61,6 +61,7 @@ impl BootHeader {
     }
 
     // The boot header of an image that has room for one.
+    #[tactic(auto, unfolding(pdi_spec::specs::Headers::boot_from, pdi_spec::specs::Headers::XNLX))]
     pub fn read(image: &[u8]) -> BootHeader
         requires { boot_size ≤ length image.now }
         ensures { boot_of result ≡ boot_from image.now }

@@ -3,8 +3,6 @@ ghost use Rattle.std.specs.Prelude.{◌≡◌, ◌+◌, ◌≤◌, length};
 ghost use Rattle.pdi_spec.specs.HashBlock.{entry_size};
 ghost use Rattle.headers.specs.Headers.{entry_from};
 
-use crate::field;
-
 // Where an entry lies, and its index.
 #[derive(Clone, Copy)]
 pub struct HashEntry {
@@ -23,13 +21,14 @@ impl HashEntry {
     pub const SIZE: usize = Self::DIGEST + Self::DIGEST_SIZE;
 
     // The entry at a byte offset.
+    #[tactic(auto, unfolding(crate::specs::Headers::entry_from))]
     pub fn read(image: &[u8], at: usize) -> HashEntry
         requires { at + entry_size ≤ length image.now }
         ensures { result ≡ entry_from image.now at }
     {
         HashEntry {
             at,
-            index: field::word(image, at, Self::INDEX),
+            index: words::word_at(image, at + Self::INDEX),
         }
     }
 }

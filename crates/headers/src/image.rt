@@ -3,8 +3,6 @@ ghost use Rattle.std.specs.Prelude.{◌≡◌, ◌+◌, ◌≤◌, length};
 ghost use Rattle.pdi_spec.specs.Headers.{image_header_from, image_header_size};
 ghost use Rattle.headers.specs.Headers.{image_header_of};
 
-use crate::field;
-
 // An image header, read at a byte offset.
 #[derive(Clone, Copy)]
 pub struct ImageHeader {
@@ -30,15 +28,16 @@ impl ImageHeader {
     pub const CHECKSUMMED_WORDS: usize = 15;
 
     // The header at a byte offset.
+    #[tactic(auto, unfolding(pdi_spec::specs::Headers::image_header_from))]
     pub fn read(image: &[u8], at: usize) -> ImageHeader
         requires { at + image_header_size ≤ length image.now }
         ensures { image_header_of result ≡ image_header_from image.now at }
     {
         ImageHeader {
             at,
-            first_header_offset: field::word(image, at, Self::FIRST_HEADER_OFFSET),
-            partitions: field::word(image, at, Self::PARTITIONS),
-            checksum: field::word(image, at, Self::CHECKSUM),
+            first_header_offset: words::word_at(image, at + Self::FIRST_HEADER_OFFSET),
+            partitions: words::word_at(image, at + Self::PARTITIONS),
+            checksum: words::word_at(image, at + Self::CHECKSUM),
         }
     }
 }

@@ -5,7 +5,6 @@
 mod block;
 mod boot;
 mod entry;
-mod field;
 mod image;
 mod partition;
 mod table;

@@ -6,7 +6,6 @@ ghost use Rattle.headers.specs.Headers.{header_of};
 ghost use Rattle.ranges.specs.Range.{range_of};
 
 use crate::block::Block;
-use crate::field;
 use attributes::Attributes;
 use ranges::Range;
 
@@ -14,7 +13,7 @@ use ranges::Range;
 fn joined(low: u32, high: u32) -> u64
     ensures { result ≡ low + 2 ^ 32 * high }
 {
-    (low as u64) + 0x1_0000_0000 * (high as u64)
+    u64::from(low) + 0x1_0000_0000 * u64::from(high)
 }
 
 // A partition header, read at a byte offset.
@@ -85,35 +84,36 @@ impl PartitionHeader {
     pub const CHECKSUMMED_WORDS: usize = 31;
 
     // The header at a byte offset.
+    #[tactic(auto, unfolding(pdi_spec::specs::Headers::header_from))]
     pub fn read(image: &[u8], at: usize) -> PartitionHeader
         requires { at + header_size ≤ length image.now }
         ensures { header_of result ≡ header_from image.now at }
     {
         PartitionHeader {
             at,
-            encrypted: field::word(image, at, Self::ENCRYPTED),
-            unencrypted: field::word(image, at, Self::UNENCRYPTED),
-            total: field::word(image, at, Self::TOTAL),
-            next: field::word(image, at, Self::NEXT),
+            encrypted: words::word_at(image, at + Self::ENCRYPTED),
+            unencrypted: words::word_at(image, at + Self::UNENCRYPTED),
+            total: words::word_at(image, at + Self::TOTAL),
+            next: words::word_at(image, at + Self::NEXT),
             execution: joined(
-                field::word(image, at, Self::EXECUTION_LOW),
-                field::word(image, at, Self::EXECUTION_HIGH),
+                words::word_at(image, at + Self::EXECUTION_LOW),
+                words::word_at(image, at + Self::EXECUTION_HIGH),
             ),
-            load_low: field::word(image, at, Self::LOAD_LOW),
-            load_high: field::word(image, at, Self::LOAD_HIGH),
-            data_offset: field::word(image, at, Self::DATA_OFFSET),
+            load_low: words::word_at(image, at + Self::LOAD_LOW),
+            load_high: words::word_at(image, at + Self::LOAD_HIGH),
+            data_offset: words::word_at(image, at + Self::DATA_OFFSET),
             attributes: Attributes {
-                word: field::word(image, at, Self::ATTRIBUTES),
+                word: words::word_at(image, at + Self::ATTRIBUTES),
             },
-            checksum_offset: field::word(image, at, Self::CHECKSUM_OFFSET),
-            key: field::word(image, at, Self::KEY),
+            checksum_offset: words::word_at(image, at + Self::CHECKSUM_OFFSET),
+            key: words::word_at(image, at + Self::KEY),
             block: Block::read(image, at),
-            key_total: field::word(image, at, Self::KEY_TOTAL),
-            key_actual: field::word(image, at, Self::KEY_ACTUAL),
-            signature_total: field::word(image, at, Self::SIGNATURE_TOTAL),
-            signature_actual: field::word(image, at, Self::SIGNATURE_ACTUAL),
-            reserved: field::word(image, at, Self::RESERVED),
-            checksum: field::word(image, at, Self::CHECKSUM),
+            key_total: words::word_at(image, at + Self::KEY_TOTAL),
+            key_actual: words::word_at(image, at + Self::KEY_ACTUAL),
+            signature_total: words::word_at(image, at + Self::SIGNATURE_TOTAL),
+            signature_actual: words::word_at(image, at + Self::SIGNATURE_ACTUAL),
+            reserved: words::word_at(image, at + Self::RESERVED),
+            checksum: words::word_at(image, at + Self::CHECKSUM),
         }
     }
 
@@ -127,24 +127,29 @@ impl PartitionHeader {
         }
     }
 
+    // So many words from the data offset on.
+    fn stored(self, words: u32) -> Range
+        ensures start { result.start ≡ 4 * self.data_offset }
+        ensures size { result.size ≡ 4 * words }
+    {
+        Range {
+            start: 4 * u64::from(self.data_offset),
+            size: 4 * u64::from(words),
+        }
+    }
+
     // All stored bytes of the partition.
     pub fn span(self) -> Range
         ensures { range_of result ≡ span_of (header_of self) }
     {
-        Range {
-            start: 4 * (self.data_offset as u64),
-            size: 4 * (self.total as u64),
-        }
+        self.stored(self.total)
     }
 
     // Its body: the first E words of them.
     pub fn body(self) -> Range
         ensures { range_of result ≡ body_of (header_of self) }
     {
-        Range {
-            start: 4 * (self.data_offset as u64),
-            size: 4 * (self.encrypted as u64),
-        }
+        self.stored(self.encrypted)
     }
 
     // The addresses that a partition with a load address fills.
@@ -153,7 +158,7 @@ impl PartitionHeader {
     {
         Range {
             start: joined(self.load_low, self.load_high),
-            size: 4 * (self.unencrypted as u64),
+            size: 4 * u64::from(self.unencrypted),
         }
     }
 }

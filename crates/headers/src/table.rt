@@ -7,7 +7,6 @@ ghost use Rattle.headers.specs.Headers.{table_of};
 ghost use Rattle.ranges.specs.Range.{range_of};
 
 use crate::block::Block;
-use crate::field;
 use ranges::Range;
 
 const FPDI: [u8; 4] = *b"FPDI";
@@ -20,7 +19,7 @@ pub struct HeaderSizes {
     pub word: u32,
 }
 
-// The table, read at its place.
+// The table, read at its place. The kind is the number that the head of the rows states: 1 full, 2 partial, or 0 where it is neither.
 #[derive(Clone, Copy)]
 pub struct TableHeader {
     pub place: usize,
@@ -63,13 +62,15 @@ impl HeaderSizes {
 }
 
 // The kind by the four bytes of the kind string: 1 full, 2 partial, 0 neither.
+#[tactic(auto, unfolding(pdi_spec::specs::Headers::kind_from, pdi_spec::specs::Headers::FPDI, pdi_spec::specs::Headers::PPDI))]
 fn kind_of(image: &[u8], place: usize) -> u32
     requires { place + header_size ≤ length image.now }
     ensures { result ≡ kind_from image.now (place + 0x28) }
 {
-    if field::spells(image, place, TableHeader::KIND, &FPDI) {
+    let at = place + TableHeader::KIND;
+    if words::spells(image, at, &FPDI) {
         1
-    } else if field::spells(image, place, TableHeader::KIND, &PPDI) {
+    } else if words::spells(image, at, &PPDI) {
         2
     } else {
         0
@@ -108,26 +109,27 @@ impl TableHeader {
     pub const CHECKSUMMED_WORDS: usize = 31;
 
     // The table at its place.
+    #[tactic(auto, unfolding(pdi_spec::specs::Headers::table_from))]
     pub fn read(image: &[u8], place: usize) -> TableHeader
         requires { place + header_size ≤ length image.now }
         ensures { table_of result ≡ table_from image.now place }
     {
         TableHeader {
             place,
-            version: field::word(image, place, Self::VERSION),
-            images: field::word(image, place, Self::IMAGES),
-            image_header_offset: field::word(image, place, Self::IMAGE_HEADER_OFFSET),
-            partitions: field::word(image, place, Self::PARTITIONS),
-            first_header_offset: field::word(image, place, Self::FIRST_HEADER_OFFSET),
+            version: words::word_at(image, place + Self::VERSION),
+            images: words::word_at(image, place + Self::IMAGES),
+            image_header_offset: words::word_at(image, place + Self::IMAGE_HEADER_OFFSET),
+            partitions: words::word_at(image, place + Self::PARTITIONS),
+            first_header_offset: words::word_at(image, place + Self::FIRST_HEADER_OFFSET),
             kind: kind_of(image, place),
             header_sizes: HeaderSizes {
-                word: field::word(image, place, Self::HEADER_SIZES),
+                word: words::word_at(image, place + Self::HEADER_SIZES),
             },
-            key: field::word(image, place, Self::KEY),
-            optional_words: field::word(image, place, Self::OPTIONAL_WORDS),
+            key: words::word_at(image, place + Self::KEY),
+            optional_words: words::word_at(image, place + Self::OPTIONAL_WORDS),
             block: Block::read(image, place),
-            reserved: field::word(image, place, Self::RESERVED),
-            checksum: field::word(image, place, Self::CHECKSUM),
+            reserved: words::word_at(image, place + Self::RESERVED),
+            checksum: words::word_at(image, place + Self::CHECKSUM),
         }
     }
 
@@ -137,7 +139,7 @@ impl TableHeader {
     {
         Range {
             start: self.place as u64,
-            size: (Self::SIZE as u64) + 4 * (self.optional_words as u64),
+            size: (Self::SIZE as u64) + 4 * u64::from(self.optional_words),
         }
     }
 
@@ -147,8 +149,8 @@ impl TableHeader {
     {
         let sizes = self.header_sizes;
         Range {
-            start: 4 * (self.image_header_offset as u64),
-            size: 4 * ((self.images as u64) * (sizes.image_header_words() as u64)),
+            start: 4 * u64::from(self.image_header_offset),
+            size: 4 * (u64::from(self.images) * u64::from(sizes.image_header_words())),
         }
     }
 }

@@ -1,13 +1,12 @@
 -- The search for a partition's owner: what the loop keeps after i images, and what it answers. Assumes nothing.
-use Prim.Native.Nat.{ℕ, ◌+◌, ◌*◌, ◌≤◌, ◌<◌}
-use native.Mathlib.Omega.{arith}
-use mathlib.Core.Bool.{Bool}
-use mathlib.Core.Option.{Option-elim}
-use mathlib.Core.Path.{◌≡◌, refl, sym, ◌∙◌, ap}
-use borrow.Author.Tests.{le-leb, lt-leb}
-use lib.Dec.{leb}
+use Rattle.std.proofs.Common.{ℕ, ◌+◌, ◌*◌, ◌≤◌, ◌<◌, arith, Bool, ◌≡◌, refl, sym, ◌∙◌, ap, le-leb, leb}
+use Rattle.std.proofs.Math.Option.{Option-elim}
+use Rattle.std.proofs.lemmas.Bool.{lt-leb}
 use Rattle.pdi_spec.specs.File.{File}
 use Rattle.pdi_spec.specs.Images.{images, image_numbers, image_header, owned_up_to, owner_image}
+use Rattle.pdi_spec.specs.Headers as spec
+use Rattle.headers.specs.Headers.{image_header_of}
+use Rattle.headers.specs.declared.image.ImageHeader.{ImageHeader}
 use Rattle.pdi_spec.proofs.Laws.Images.{owned_more}
 use Rattle.pdi_spec.proofs.Laws.Searches.{NoneOf, none_yet, one_more, found, not_found}
 
@@ -25,27 +24,27 @@ pub starts : (f : File) (p : ℕ) → OwnedSoFar f p 0 0
 unfolding owned_up_to
 starts f p = record { owned_is = refl; small = omega arith; none = none_yet (reaches f p) 1 }
 
-module _ (f : File) {p owned i : ℕ} (so_far : OwnedSoFar f p owned i) {count : ℕ}
-    (count_is : count ≡ (image_header f (i + 1)).partitions) where
-  owned_next : owned_up_to f (1 + i) ≡ owned + count
-  owned_next =
-      ap (owned_up_to f) {x = 1 + i} {y = i + 1} (omega arith) ∙ omega (arith, owned_more f i, so_far.owned_is, count_is)
+module _ (f : File) {p owned i : ℕ} (so_far : OwnedSoFar f p owned i) where
+  module _ {h : ImageHeader} (read : image_header_of h ≡ image_header f (i + 1)) where
+    owned_next : owned_up_to f (1 + i) ≡ owned + h.partitions
+    owned_next =
+        let count = ap {B = ℕ} (λ (u : spec.ImageHeader). u.partitions) read in
+        ap (owned_up_to f) {x = 1 + i} {y = i + 1} (omega arith) ∙ omega (arith, owned_more f i, so_far.owned_is, count)
 
-  pub onward : count < 0x1_0000_0000 → owned + count < p → OwnedSoFar f p (owned + count) (i + 1)
-  onward few l =
-      record {
-        owned_is = sym owned_next ∙ ap (owned_up_to f) {x = 1 + i} {y = i + 1} (omega arith);
-        small = omega (arith, so_far.small);
-        none = one_more (reaches f p) 1 i so_far.none (lt-leb p (owned_up_to f (1 + i)) (omega (arith, owned_next)));
-      }
+    pub onward : h.partitions < 0x1_0000_0000 → owned + h.partitions < p → OwnedSoFar f p (owned + h.partitions) (i + 1)
+    onward few l =
+        record {
+          owned_is = sym owned_next ∙ ap (owned_up_to f) {x = 1 + i} {y = i + 1} (omega arith);
+          small = omega (arith, so_far.small);
+          none = one_more (reaches f p) 1 i so_far.none (lt-leb p (owned_up_to f (1 + i)) (omega (arith, owned_next)));
+        }
 
-  pub reached : i < images f → p ≤ owned + count → i + 1 ≡ owner_image f p
+    pub reached : i < images f → p ≤ owned + h.partitions → owner_image f p ≡ i + 1
+    unfolding owner_image image_numbers Option-elim
+    reached l e =
+        let first = found (reaches f p) 1 (images f) i so_far.none l (le-leb p (owned_up_to f (1 + i)) (omega (arith, owned_next))) in
+        rw first (omega arith)
+
+  pub unreached : i ≡ images f → owner_image f p ≡ 0
   unfolding owner_image image_numbers Option-elim
-  reached l h =
-      let first = found (reaches f p) 1 (images f) i so_far.none l
-      (le-leb p (owned_up_to f (1 + i)) (omega (arith, owned_next))) in
-      rw first (omega arith)
-
-pub unreached : (f : File) {p owned i : ℕ} → OwnedSoFar f p owned i → i ≡ images f → 0 ≡ owner_image f p
-unfolding owner_image image_numbers Option-elim
-unreached f {p} so_far e = rw (not_found (reaches f p) 1 (images f) (λ k l. so_far.none k (omega arith))) refl
+  unreached e = rw (not_found (reaches f p) 1 (images f) (λ k l. so_far.none k (omega arith))) refl

@@ -18,6 +18,7 @@ impl ImageHeaders<'_> {
     ghost use Rattle.headers.specs.Headers.{image_header_of};
 
     // The header of image i + 1.
+    #[tactic(auto, unfolding(pdi_spec::specs::Images::image_header), using(crate::proofs::ImageRuns::place_is))]
     pub fn header(&self, i: usize) -> ImageHeader
         requires { i < self.now.table.images }
         ensures { image_header_of result ≡ image_header (file_of self.now.image.now self.now.table) (i + 1) }

@@ -6,6 +6,7 @@ ghost use Rattle.chain_rules.specs.Chain.{file_of};
 use crate::ImageHeaders;
 
 // The first image that owns p partitions together with those before it, counted from 1; 0 where none does. 32 counts fit in 64 bits.
+#[tactic(auto, using(crate::proofs::Owned::unreached, crate::proofs::ImageRuns::images_are))]
 pub fn owner_of(headers: &ImageHeaders, p: usize) -> u64
     ensures { result ≡ owner_image (file_of headers.now.image.now headers.now.table) p }
 {

@@ -16,6 +16,7 @@ use refusals::Rule;
 
 // How many partitions image i + 1 and the images before it own, where those before it own that many. None where its header breaks rule 20,
 // or where no partition is left for it. No partition header past the last is looked at.
+#[tactic(auto, using(crate::proofs::ImageRuns::run_none, crate::proofs::ImageRuns::run_some))]
 fn run_at(
     headers: &ImageHeaders,
     offsets: &[usize; MOST_PARTITIONS],
@@ -42,6 +43,7 @@ fn run_at(
 }
 
 // Rule 20.
+#[tactic(auto, using(crate::proofs::ImageRuns::along))]
 pub fn check_images(chain: &Chain) -> Result<(), Rule>
     requires { ImageHeadersInside chain.now.image.now chain.now.table }
     ensures { image_outcome_of result ≡ verdict (rule20 ∷ []) (file_of_chain chain.now) }

@@ -8,14 +8,15 @@ ghost use Rattle.std.specs.Io.KnownBytes.{Consumes, IsAtEnd};
 use std::io;
 use std::io::Read;
 
-// 65,536 zeros.
-pub fn large_buffer() -> [u8; 65_536]
-    ensures { 65536 ≡ length result }
+// N zeros.
+pub fn buffer<const N: usize>() -> [u8; N]
+    ensures { length result ≡ N }
 {
-    [0; 65_536]
+    [0; N]
 }
 
 // How many bytes came; they lie at the start of the buffer. Where they are fewer than it has, the input has no more.
+#[tactic(auto, using(crate::proofs::Reading::read_more, crate::proofs::Reading::read_within))]
 pub fn read_full<R: Read>(reader: &mut R, buffer: &mut [u8]) -> io::Result<usize>
     ensures within { IfOk result (λ n. n ≤ length buffer.new) }
     ensures bytes { IfOk result (λ n. Consumes (R.remaining reader.old) (R.remaining reader.new) (take n buffer.new)) }

@@ -16,13 +16,13 @@ const OFFSETS: usize = 64;
 const ENOUGH: usize = 4 * OFFSETS + BootHeader::SIZE;
 
 fn main(rt: HostRuntime) -> io::Result<()> {
-    let mut buffer = inputs::large_buffer();
+    let mut buffer = inputs::buffer::<65_536>();
     let n = inputs::read_full(&mut rt.stdin(), &mut buffer)?;
     let input = &buffer[..n];
     let sum = if n < 2 + ENOUGH {
         0
     } else {
-        turns(&input[2..], input[0], 1000 * ((input[1] % 16) as usize))
+        turns(&input[2..], input[0], 1000 * usize::from(input[1] % 16))
     };
     println!(rt; "{sum}")
 }

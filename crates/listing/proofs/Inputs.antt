@@ -45,3 +45,6 @@ module _ (input out : List ℕ) (room : longest_printed ≤ length out) where
   pub text_writes : {text : List ℕ} → text ≡ printed input → text ++ drop (length text) out ≡ print_buffer input out
   unfolding print_buffer
   text_writes e = rw (le-ltb (length out) longest_printed room, e) refl
+
+-- what print needs
+pub ruleset prints = (bad_text, held_text, short_buffer, text_answers, text_writes)

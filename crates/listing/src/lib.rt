@@ -20,6 +20,7 @@ type Text = ArrayString<LONGEST>;
 
 // Puts what the program prints for this input at the start of `out`, and answers how many bytes it is. A buffer under LONGEST bytes is
 // left as found, and the answer is 0.
+#[tactic(auto, using(crate::proofs::Inputs::prints, crate::proofs::Appends::alone), unfolding(crate::specs::Printed::envelope_text))]
 pub fn print(input: &[u8], out: &mut [u8]) -> usize
     ensures answers { result ≡ print_answer input.now out.old }
     ensures writes { out.new ≡ print_buffer input.now out.old }

@@ -1,7 +1,6 @@
 // Whether some two ranges clash: of one list, or of two.
 ghost use Rattle.std.specs.Prelude.{map, ◌≡◌};
 ghost use Rattle.pdi_spec.specs.Lists.{any_of, any_pair};
-ghost use Rattle.pdi_spec.specs.Ranges.{overlap};
 ghost use Rattle.pairs.specs.Lists.{block_clash, clashes, crossing};
 ghost use Rattle.ranges.specs.Range.{range_of};
 
@@ -36,13 +35,6 @@ pub fn any_clash(ranges: &[Range], equals: bool) -> bool
         .any(|(i, a)| clashes_any(*a, &ranges[i + 1..], equals))
 }
 
-// One range overlaps some one of a list.
-fn overlaps_any(a: Range, ranges: &[Range]) -> bool
-    ensures { result ≡ any_of (overlap (range_of a)) (map range_of ranges.now) }
-{
-    ranges.iter().any(|b| ranges::overlap(a, *b))
-}
-
 // Some block overlaps some range.
 fn any_crossing(blocks: &[Range], ranges: &[Range]) -> bool
     ensures { result ≡ crossing (map range_of blocks.now) (map range_of ranges.now) }
@@ -50,7 +42,7 @@ fn any_crossing(blocks: &[Range], ranges: &[Range]) -> bool
     if order::all_apart(blocks, ranges) {
         return false;
     }
-    blocks.iter().any(|b| overlaps_any(*b, ranges))
+    blocks.iter().any(|b| clashes_any(*b, ranges, false))
 }
 
 // Some block overlaps some range, or another block that it does not equal.

@@ -15,6 +15,7 @@ use rows::{BUFFER, HEAD, ROW};
 const BYTES: usize = 8 * BUFFER;
 
 // Stores the numbers from the first byte on.
+#[tactic(auto, using(crate::proofs::Buffers::none_stored, crate::proofs::Buffers::turn))]
 fn put_numbers(rows: &mut [u8], numbers: &[u64])
     requires { number_bytes * length numbers.now ≤ length rows.old }
     ensures { rows.new ≡ sets rows.old 0 (flat_map (le_bytes number_bytes) numbers.now) }
@@ -33,6 +34,7 @@ fn too_short(image: &[u8], place: usize) -> u64
 }
 
 // Read's answer; an acceptance stores the head and the rows, and changes no other byte of the row buffer.
+#[tactic(auto, using(crate::proofs::Rows::plain_laws))]
 pub fn pdi_read(image: &[u8], place: u64, rows: &mut [u8]) -> u64
     ensures answers { result ≡ host_answer image.now place rows.old }
     ensures writes { rows.new ≡ host_rows image.now place rows.old }

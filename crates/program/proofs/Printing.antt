@@ -1,6 +1,6 @@
 -- What the printing function leaves in a buffer that is long enough is what is printed, and an input that was read up to the buffer's
 -- length prints as the whole input does. Assumes nothing.
-use Rattle.std.specs.Prelude.{ℕ, ◌≤◌, ◌<◌, ◌≡◌, List, Option, None, Some, IfSome, ◌++◌, length, take, ltb}
+use Rattle.std.specs.Prelude.{ℕ, ◌≤◌, ◌<◌, ◌≡◌, List, Option, None, Some, IfSome, Result, Ok, Err, IfOk, is_ok, ◌++◌, length, take, ltb}
 use Rattle.std.proofs.Common.{◌∙◌, ap, arith, append-nil, length-append, sym, subst, true, false, Bool, refl}
 use Rattle.std.proofs.Math.Seq.{take-append_seam, take_all}
 use borrow.Author.Tests.{ltb-false, ltb-true, le-ltb}
@@ -35,3 +35,8 @@ read_prints (Some input) (Some rest) buffer n P room within given end p = go (lt
         let cut : take size input ≡ buffer = ap (take size) (given ∙ ap (λ l. l ++ rest) full) ∙ take-append_seam buffer rest in
         let there : size ≤ length input = omega (arith, ap length given, ap length full, length-append first rest) in
         subst P (ap printed (full ∙ sym cut) ∙ cut_printed plain_rules input size room there) p
+
+-- what is said of a success holds where there is one
+pub on_success : {T E : Type 0} {P : T → Type 0} (r : Result T E) → true ≡ is_ok r → IfOk r P → (x : T) × P x
+on_success (Ok x) e h = (x, h)
+on_success (Err x) e h = absurd (cc e)

@@ -19,6 +19,7 @@ abbrev pub part_of : Part → Header → Range
 part_of Part.Header h = header_range h
 part_of Part.Span h = span_of h
 part_of Part.Body h = body_of h
+part_of Part.Load h = load_of h
 
 -- that range of each partition
 unfoldable pub parts_of : Part → File → List Range

@@ -4,5 +4,5 @@
 mod lists;
 mod parts;
 
-pub use lists::{Ranges, push_blocks, push_headers, push_parts};
+pub use lists::{Ranges, push_parts, put_blocks, put_headers};
 pub use parts::{Part, load_of};

@@ -33,6 +33,7 @@ fn push_first(table: TableHeader, ranges: &mut Ranges)
 }
 
 // Appends one range of each partition.
+#[tactic(auto, using(crate::proofs::Joined::parts_none, crate::proofs::Joined::parts_more, crate::proofs::Joined::parts_all))]
 pub fn push_parts(chain: &Chain, part: Part, ranges: &mut Ranges)
     requires { array_vec_len ranges.old + chain.now.table.partitions ≤ most_ranges }
     ensures pushed { map range_of ranges.new.items
@@ -45,19 +46,19 @@ pub fn push_parts(chain: &Chain, part: Part, ranges: &mut Ranges)
     }
 }
 
-// Appends all ranges of headers: those before the partitions', and each partition header.
-pub fn push_headers(chain: &Chain, ranges: &mut Ranges)
-    requires { array_vec_len ranges.old + 3 + chain.now.table.partitions ≤ most_ranges }
-    ensures pushed { map range_of ranges.new.items
-        ≡ map range_of ranges.old.items ++ header_ranges (file_of_chain chain.now) }
-    ensures few { array_vec_len ranges.new
-        ≤ array_vec_len ranges.old + 3 + chain.now.table.partitions }
+// Makes the list that of all ranges of headers: those before the partitions', and each partition header.
+#[tactic(auto, using(crate::proofs::Joined::headers_joined))]
+pub fn put_headers(chain: &Chain, ranges: &mut Ranges)
+    ensures put { map range_of ranges.new.items ≡ header_ranges (file_of_chain chain.now) }
+    ensures few { array_vec_len ranges.new + chain.now.table.partitions ≤ most_ranges }
 {
+    ranges.clear();
     push_first(chain.table, ranges);
     push_parts(chain, Part::Header, ranges);
 }
 
 // Appends a hash block, where there is one.
+#[tactic(auto, using(crate::proofs::Joined::block_pushed, crate::proofs::Joined::no_block_pushed))]
 fn push_block(block: Block, ranges: &mut Ranges)
     requires { array_vec_len ranges.old < most_ranges }
     ensures pushed { map range_of ranges.new.items
@@ -69,12 +70,12 @@ fn push_block(block: Block, ranges: &mut Ranges)
     }
 }
 
-// Appends the table's hash block, then each partition's, where there is one.
-pub fn push_blocks(chain: &Chain, ranges: &mut Ranges)
-    requires { array_vec_len ranges.old + 1 + chain.now.table.partitions ≤ most_ranges }
-    ensures { map range_of ranges.new.items
-        ≡ map range_of ranges.old.items ++ hash_blocks (file_of_chain chain.now) }
+// Makes the list that of the table's hash block, then each partition's, where there is one.
+#[tactic(auto, using(crate::proofs::Joined::blocks_none, crate::proofs::Joined::blocks_more, crate::proofs::Joined::blocks_all))]
+pub fn put_blocks(chain: &Chain, ranges: &mut Ranges)
+    ensures { map range_of ranges.new.items ≡ hash_blocks (file_of_chain chain.now) }
 {
+    ranges.clear();
     push_block(chain.table.block, ranges);
     for i in 0..chain.table.partitions as usize {
         push_block(chain.header(i).block, ranges);

@@ -7,12 +7,13 @@ ghost use Rattle.ranges.specs.Range.{range_of};
 use headers::PartitionHeader;
 use ranges::Range;
 
-// Which range of a partition is meant: its header, all its stored bytes, or the first of them that are its body.
+// Which range of a partition is meant: its header, all its stored bytes, the first of them that are its body, or its load range.
 #[derive(Clone, Copy, Debug, PartialEq, Eq)]
 pub enum Part {
     Header,
     Span,
     Body,
+    Load,
 }
 
 impl Part {
@@ -24,6 +25,7 @@ impl Part {
             Part::Header => h.range(),
             Part::Span => h.span(),
             Part::Body => h.body(),
+            Part::Load => load_of(h),
         }
     }
 }

@@ -1,5 +1,5 @@
 -- From the core's promise to the answers of a question, given by its own rules of the image, `own`. Assumes nothing.
-use Rattle.std.proofs.Common.{◌≡◌, ℕ, ◌+◌, ◌-◌, ◌*◌, ◌<◌, ◌≤◌, false, ltb, ◌⊎◌, List, ◌∷◌, length, take, drop, sym, refl, ap, ◌∙◌, inl, inr, arith}
+use Rattle.std.proofs.Common.{◌≡◌, ℕ, ◌+◌, ◌-◌, ◌*◌, ◌<◌, ◌≤◌, false, ltb, List, ◌∷◌, length, take, drop, sym, refl, ap, ◌∙◌, inl, inr, arith}
 use mathlib.Core.List.{mem-cons_of_mem}
 use Rattle.pdi_spec.specs.Answers.{asked, answer, billed, read_by, rows_by, bill_by, part_by, body_by, owner_by, empty_part, body_under, cut}
 use Rattle.pdi_spec.specs.File.{File, partitions, header}
@@ -14,6 +14,7 @@ use Rattle.pdi_spec.specs.Verdict.{Rule, once, accepted, refused, verdict}
 use Rattle.pdi_spec.proofs.Laws.Answers.{bill_accepted, bill_refused, part_accepted, part_none, part_refused}
 use Rattle.pdi_spec.proofs.Laws.Kept.{lengths_stated, span_stated}
 use Rattle.pdi_spec.proofs.Laws.Once.{once_kept}
+use Rattle.pdi_spec.proofs.Laws.Plain.{plain}
 use Rattle.pdi_spec.proofs.Laws.Owners.{owner_refused, owner_none, owner_accepted}
 use Rattle.pdi_spec.proofs.Laws.Refusals.{buffer_accepts}
 use Rattle.pdi_spec.proofs.Laws.Rows.{after_accepted, after_refused}
@@ -80,17 +81,21 @@ module _ {own : List Rule} (s : Supported own) (bytes : List ℕ) (place : ℕ) 
     accepted_bill = a.sum ∙ ap billed (same_file bytes place a held) ∙ sym (bill_accepted (without_buffer own) f accepted_is)
 
     -- a p that isn't 1 to N
-    other : (p : ℕ) → (p < 1) ⊎ (t.partitions < p) → (p < 1) ⊎ (partitions f < p)
-    other p (inl l) = inl l
-    other p (inr l) = inr (omega (arith, count_is))
-
-    pub no_part : (p : ℕ) → (p < 1) ⊎ (t.partitions < p) → part_by own bytes place p ≡ empty_part
+    pub under_part : (p : ℕ) → p < 1 → part_by own bytes place p ≡ empty_part
     unfolding part_by
-    no_part p h = part_none (without_buffer own) f p (other p h)
+    under_part p h = part_none (without_buffer own) f p (inl h)
 
-    pub no_owner : (p : ℕ) → (p < 1) ⊎ (t.partitions < p) → 0 ≡ owner_by own bytes place p
+    pub over_part : (p : ℕ) → t.partitions < p → part_by own bytes place p ≡ empty_part
+    unfolding part_by
+    over_part p h = part_none (without_buffer own) f p (inr (omega (arith, count_is)))
+
+    pub under_owner : (p : ℕ) → p < 1 → 0 ≡ owner_by own bytes place p
     unfolding owner_by
-    no_owner p h = sym (owner_none (without_buffer own) f p (other p h))
+    under_owner p h = sym (owner_none (without_buffer own) f p (inl h))
+
+    pub over_owner : (p : ℕ) → t.partitions < p → 0 ≡ owner_by own bytes place p
+    unfolding owner_by
+    over_owner p h = sym (owner_none (without_buffer own) f p (inr (omega (arith, count_is))))
 
     pub owner_told : (p : ℕ) → 1 ≤ p → p ≤ t.partitions → {o : ℕ} → o ≡ owner_image (file_of bytes t) p → o ≡ owner_by own bytes place p
     unfolding owner_by
@@ -170,3 +175,12 @@ unfolding body_by body_under part_by cut
 part_bytes own bytes place p b e =
     ap (λ (n : ℕ). take n (drop b.start bytes)) {x = b.start + b.size - b.start} {y = b.size} (omega arith)
     ∙ ap (λ (r : Range). cut r bytes) (sym e)
+
+-- what the ways out of the questions need
+pub ruleset billed_by = (refused_bill, accepted_bill, plain)
+
+pub ruleset owned_by = (refused_owner, under_owner, over_owner, owner_told, plain)
+
+pub ruleset part_told = (refused_part, under_part, over_part, plain)
+
+pub ruleset read_told = (accepted_answer, refused_answer, refused_rows)

@@ -5,6 +5,7 @@ ghost use Rattle.pdi_spec.specs.Answers.{bill_answer};
 use checks::check;
 
 // 0 for a refused image.
+#[tactic(auto, using(crate::proofs::Questions::billed_by))]
 pub fn bill(image: &[u8], place: usize) -> u64
     ensures { result ≡ bill_answer image.now place }
 {

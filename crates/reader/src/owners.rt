@@ -6,6 +6,7 @@ use checks::check;
 use image_rules::{ImageHeaders, owner_of};
 
 // Counted from 1 in table order; 0 for a refused image, and for a p that isn't 1 to N.
+#[tactic(auto, using(crate::proofs::Questions::owned_by))]
 pub fn owner(image: &[u8], place: usize, p: usize) -> u64
     ensures { result ≡ owner_answer image.now place p }
 {

@@ -6,6 +6,7 @@ use checks::check;
 use rows::BUFFER;
 
 // 64 × number + p, or 0 for an accepted image. A refusal leaves the row buffer as found.
+#[tactic(auto, using(crate::proofs::Questions::read_told))]
 pub fn read(image: &[u8], place: usize, rows: &mut [u64]) -> u64
     ensures answers { result ≡ read_answer image.now place rows.old }
     ensures writes { rows.new ≡ read_rows image.now place rows.old }

@@ -6,7 +6,7 @@ ghost use Rattle.pdi_spec.specs.Answers.{answer};
 ghost use Rattle.refusals.specs.Refusals.{number_of, of_image, outcome_of_refusal};
 
 // The rules, each with its number and the name of its definition.
-#[derive(Clone, Copy, Debug, PartialEq, Eq, PartialOrd, Ord)]
+#[derive(Clone, Copy, Debug, PartialEq, Eq)]
 pub enum Rule {
     ImageTooLong = 1,
     BufferTooShort = 2,

@@ -6,6 +6,7 @@ ghost use Rattle.chain_rules.specs.File.{file_of_chain};
 use chain_rules::Chain;
 
 // 4 × the sum of all total lengths.
+#[tactic(auto, using(crate::proofs::Totals::totals_none, crate::proofs::Totals::totals_more, crate::proofs::Totals::totals_all))]
 pub fn billed(chain: &Chain) -> u64
     ensures { result ≡ billed (file_of_chain chain.now) }
 {

@@ -18,6 +18,7 @@ pub const BUFFER: usize = HEAD + ROW * MOST_PARTITIONS;
 
 impl Accepted<'_> {
     // The row of partition i + 1.
+    #[tactic(auto, using(crate::proofs::Stores::row_told))]
     fn row(&self, i: usize) -> [u64; ROW]
         requires { i < self.now.chain.table.partitions }
         ensures { result ≡ row_numbers (row_of (file_of_chain self.now.chain) (i + 1)) }
@@ -38,6 +39,7 @@ impl Accepted<'_> {
     }
 
     // The rows, which follow the head.
+    #[tactic(auto, using(crate::proofs::Stores::rows_none, crate::proofs::Stores::turn))]
     fn write_rows(&self, rows: &mut [u64])
         requires { head_width + row_width * self.now.chain.table.partitions ≤ length rows.old }
         ensures { rows.new ≡ sets rows.old head_width (first_rows (file_of_chain self.now.chain)
@@ -50,6 +52,7 @@ impl Accepted<'_> {
     }
 
     // The head and the rows. What comes after them is left as found.
+    #[tactic(auto, using(crate::proofs::Stores::whole))]
     pub fn write(&self, rows: &mut [u64])
         requires { head_width + row_width * self.now.chain.table.partitions ≤ length rows.old }
         ensures { rows.new ≡ overwritten (file_of_chain self.now.chain) rows.old }

@@ -1,7 +1,6 @@
 -- What the verdict is, from the lowest broken rule and from the tests' answers; and that a table which rule 3 has passed lies inside.
 -- Assumes nothing.
 use Prim.Native.Nat.{ℕ, ◌+◌, ◌%◌, ◌≤◌}
-use native.Mathlib.Omega.{arith}
 use borrow.Author.Tests.{ltb-false}
 use mathlib.Core.Bool.{Bool, true, false, not, ◌&&◌}
 use mathlib.Core.List.{List}
@@ -36,9 +35,9 @@ accepted_told : (f : File) → first_broken table_rules f 0 ≡ none → accepte
 unfolding Option-elim
 accepted_told f e = found_told f e
 
-pub table_inside : (f : File) → table_outside f ≡ false → f.place + header_size ≤ length f.bytes
+pub table_inside : (image : List ℕ) (place : ℕ) → table_outside (asked image place) ≡ false → place + header_size ≤ length image
 unfolding table_outside past end_of
-table_inside f e = ltb-false (length f.bytes) (f.place + header_size) (or_right (not (eqb (f.place % 4) 0)) _ e)
+table_inside image place e = ltb-false (length image) (place + header_size) (or_right (not (eqb (place % 4) 0)) _ e)
 
 -- ---- the verdict where a rule is the first that is broken, and past them all; `t` is the table as the code reads it
 
@@ -48,11 +47,6 @@ module _ (image : List ℕ) (place : ℕ) where
   told_3 e = refused_told _ (rw e refl)
 
   module _ (t : TableHeader) (own : table_of t ≡ table_from image place) (k3 : table_outside (asked image place) ≡ false) where
-    -- what was read lies at the place that was asked for
-    pub read_inside : t.place + header_size ≤ length image
-    unfolding table_from
-    read_inside = omega (arith, ap (λ (t : Table). t.place) own, table_inside _ k3)
-
     checksum_is : {b : Bool} → not (eqb t.checksum (checksum image t.place 31)) ≡ b → table_checksum_wrong (asked image place) ≡ b
     unfolding table_checksum_wrong table table_from
     checksum_is told = sym (ap (λ (t : Table). not (eqb t.checksum (checksum image t.place 31))) own) ∙ told
@@ -95,3 +89,6 @@ module _ (image : List ℕ) (place : ℕ) where
               pub told : image_headers_outside image (table_of t) ≡ false → accepted ≡ verdict table_rules (asked image place)
               unfolding table_rules once first_broken table
               told e = accepted_told _ (rw (k3, checksum_is k4, ← own, k5, k6, k7, boot_is k8, e) refl)
+
+-- what the ways out of the stage need
+pub ruleset told_by_rule = (table_inside, told_3, told_4, told_5, told_6, told_7, told_8, told_9, told)

@@ -12,6 +12,7 @@ use headers::{BootHeader, ImageHeader, MOST_IMAGES, MOST_PARTITIONS, TableHeader
 use ranges::Range;
 
 // Rule 3.
+#[tactic(auto, unfolding(pdi_spec::specs::Rules::table_outside))]
 pub(crate) fn table_outside(image: &[u8], place: usize) -> bool
     ensures { result ≡ table_outside (asked image.now place) }
 {
@@ -31,6 +32,7 @@ pub(crate) fn table_checksum_wrong(image: &[u8], t: TableHeader) -> bool
 }
 
 // Rule 5.
+#[tactic(auto, unfolding(pdi_spec::specs::Rules::kind_unknown))]
 pub(crate) fn kind_unknown(t: TableHeader) -> bool
     ensures { result ≡ kind_unknown (table_of t) }
 {
@@ -38,13 +40,15 @@ pub(crate) fn kind_unknown(t: TableHeader) -> bool
 }
 
 // Not `low` to `high`.
+#[tactic(auto, unfolding(pdi_spec::specs::Rules::not_from))]
 fn not_from(low: u32, high: u32, n: u32) -> bool
     ensures { result ≡ not_from low high n }
 {
-    (n < low) | (high < n)
+    !(low..=high).contains(&n)
 }
 
 // Rule 6.
+#[tactic(auto, unfolding(pdi_spec::specs::Rules::table_fields_bad, pdi_spec::specs::Lists::any_true))]
 pub(crate) fn table_fields_bad(t: TableHeader) -> bool
     ensures { result ≡ table_fields_bad (table_of t) }
 {
@@ -59,6 +63,7 @@ pub(crate) fn table_fields_bad(t: TableHeader) -> bool
 }
 
 // Rule 7.
+#[tactic(auto, unfolding(pdi_spec::specs::Rules::table_key_unknown))]
 pub(crate) fn table_key_unknown(t: TableHeader) -> bool
     ensures { result ≡ table_key_unknown (table_of t) }
 {
@@ -66,6 +71,7 @@ pub(crate) fn table_key_unknown(t: TableHeader) -> bool
 }
 
 // Rule 8, of a full image that has room for a boot header.
+#[tactic(auto, unfolding(pdi_spec::specs::Rules::boot_header_bad, pdi_spec::specs::Lists::any_true))]
 fn boot_header_bad(image: &[u8], t: TableHeader, b: BootHeader) -> bool
     requires { boot_size ≤ length image.now }
     ensures { result ≡ boot_header_bad image.now (table_of t) (boot_of b) }
@@ -84,17 +90,18 @@ fn boot_header_bad(image: &[u8], t: TableHeader, b: BootHeader) -> bool
         | (b.plm_length < 1)
         | (b.plm_total < b.plm_length)
         | (b.cdo_total < b.cdo_length)
-        | ((b.source_offset as u64) < (BootHeader::SIZE as u64))
+        | (u64::from(b.source_offset) < (BootHeader::SIZE as u64))
         | ranges::past(
             image.len() as u64,
             Range {
-                start: b.source_offset as u64,
-                size: b.plm_total as u64,
+                start: u64::from(b.source_offset),
+                size: u64::from(b.plm_total),
             },
         )
 }
 
 // Rule 8. A partial image has no boot header to read; and only behind the place that it takes up may a full image's table lie.
+#[tactic(auto, unfolding(pdi_spec::specs::Rules::boot_header_bad, pdi_spec::specs::Lists::any_true))]
 pub(crate) fn boot_header_wrong(image: &[u8], t: TableHeader) -> bool
     requires { t.place + header_size ≤ length image.now }
     ensures { result ≡ (eqb t.kind 1 && boot_header_bad image.now (table_of t) (boot_from image.now)) }
@@ -109,6 +116,7 @@ pub(crate) fn boot_header_wrong(image: &[u8], t: TableHeader) -> bool
 }
 
 // Rule 9.
+#[tactic(auto, unfolding(pdi_spec::specs::Rules::image_headers_outside))]
 pub(crate) fn image_headers_outside(image: &[u8], t: TableHeader) -> bool
     ensures { result ≡ image_headers_outside image.now (table_of t) }
 {

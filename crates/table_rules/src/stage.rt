@@ -12,6 +12,7 @@ use headers::TableHeader;
 use refusals::Rule;
 
 // The table, or the lowest rule that is broken: the tests run in the order of their numbers, so the first that is true has the lowest.
+#[tactic(auto, using(crate::proofs::Answers::told_by_rule), unfolding(pdi_spec::specs::File::table, pdi_spec::specs::Headers::table_from))]
 pub fn check_table(image: &[u8], place: usize) -> Result<TableHeader, Rule>
     ensures told { image_outcome_of result ≡ verdict table_rules (asked image.now place) }
     ensures table { IfOk result (λ t. table_of t ≡ table (asked image.now place)) }

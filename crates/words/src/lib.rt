@@ -56,6 +56,7 @@ pub fn boot_checksum(s: &[u8], at: usize, n: usize) -> u32
 }
 
 // The four bytes from an offset on are those of the text. As words they are compared at once.
+#[tactic(auto, using(crate::proofs::Text::spells_word))]
 pub fn spells(s: &[u8], at: usize, text: &[u8; 4]) -> bool
     requires { at + 3 < length s.now }
     ensures { result ≡ spells s.now at text.now }

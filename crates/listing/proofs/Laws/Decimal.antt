@@ -78,6 +78,17 @@ decimal_some =
     by_digits (λ n. 0 < length (decimal n)) (λ n h. omega (arith, ap length (decimal_small n h)))
     (λ n h k. omega (arith, length_more n h))
 
+-- a number's tenth is below the power before
+tenth : (k n : ℕ) → n < 10 ^ suc (suc k) → n / 10 < 10 ^ suc k
+tenth k n h = omega arith
+
+-- a number below a power of ten has at most as many digits as that power has zeros
+pub decimal_length : (k n : ℕ) → n < 10 ^ suc k → length (decimal n) ≤ suc k
+decimal_length zero n h = omega (arith, ap length (decimal_small n h))
+decimal_length (suc k) n h =
+    ⊎_elim (λ few. omega (arith, ap length (decimal_small n few)))
+    (λ many. omega (arith, length_more n many, decimal_length k (n / 10) (tenth k n h))) (one_or_more n)
+
 -- ---- which bytes
 
 every_append : (P : ℕ → Type 0) (xs ys : List ℕ) → Every P xs → Every P ys → Every P (xs ++ ys)

@@ -1,7 +1,6 @@
 -- `pdi_host::put_numbers`: the first i numbers are stored, and nothing else is changed. Assumes nothing.
-use mathlib.Core.Path.{◌≡◌}
-use lib.ListN.{take}
-use lib.Seq.{sets}
+use Rattle.std.specs.Prelude.{◌≡◌, take}
+use Rattle.std.proofs.lemmas.List.Edits.{sets}
 use Rattle.pdi_host.proofs.Buffers.{bytes_of}
 use Rattle.pdi_host.proofs.put_numbers.Given as goal
 

@@ -1,9 +1,6 @@
 -- `clash_rules::loads::check_loads`: none of the first i partitions meets an earlier one, nor does partition i + 1 meet one of the first j
 -- (Meetings.antt). Assumes nothing.
-use Prim.Native.Nat.{ℕ, ◌+◌, ◌<◌}
-use mathlib.Core.Bool.{false}
-use mathlib.Core.Path.{◌≡◌}
-use Rattle.std.specs.Prelude.{None}
+use Rattle.std.specs.Prelude.{◌≡◌, ℕ, ◌+◌, ◌<◌, false, None}
 use Rattle.pdi_spec.specs.Ranges.{overlap}
 use Rattle.chain_rules.specs.File.{file_of_chain}
 use Rattle.clash_rules.proofs.Meetings.{load, NoneMeets}

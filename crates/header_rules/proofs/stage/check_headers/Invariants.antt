@@ -1,5 +1,5 @@
 -- `header_rules::stage::check_headers`: after i headers the answer is that of rules 11 to 16 on them (Lowest.antt). Assumes nothing.
-use mathlib.Core.Path.{◌≡◌}
+use Rattle.std.proofs.Common.{◌≡◌}
 use Rattle.pdi_spec.specs.RuleList.{header_rules}
 use Rattle.refusals.specs.Refusals.{outcome_of}
 use Rattle.chain_rules.specs.File.{file_of_chain}

@@ -1,6 +1,5 @@
 -- `rows::bill::billed`: `words` is the sum of the i total lengths passed, each below 2^32. Assumes nothing.
-use Prim.Native.Nat.{◌*◌, ◌≤◌}
-use mathlib.Core.Path.{◌≡◌}
+use Rattle.std.specs.Prelude.{◌≡◌, ◌*◌, ◌≤◌}
 use Rattle.chain_rules.specs.File.{file_of_chain}
 use Rattle.rows.proofs.Totals.{totals}
 use Rattle.rows.proofs.bill.billed.Given as goal

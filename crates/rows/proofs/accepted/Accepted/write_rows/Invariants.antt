@@ -1,6 +1,6 @@
 -- `rows::accepted::Accepted::write_rows`: the first i rows are stored, and nothing else is changed. Assumes nothing.
-use mathlib.Core.Path.{◌≡◌}
-use lib.Seq.{sets}
+use Rattle.std.specs.Prelude.{◌≡◌}
+use Rattle.std.proofs.lemmas.List.Edits.{sets}
 use Rattle.pdi_spec.specs.Limits.{head_width}
 use Rattle.chain_rules.specs.File.{file_of_chain}
 use Rattle.rows.specs.Rows.{first_rows}
