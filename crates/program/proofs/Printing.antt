@@ -1,11 +1,13 @@
 -- What the printing function leaves in a buffer that is long enough is what is printed, and an input that was read up to the buffer's
 -- length prints as the whole input does. Assumes nothing.
-use Rattle.std.specs.Prelude.{ℕ, ◌≤◌, ◌<◌, ◌≡◌, List, Option, None, Some, IfSome, Result, Ok, Err, IfOk, is_ok, ◌++◌, length, take, ltb}
+use Rattle.std.specs.Prelude.{ℕ, ◌+◌, ◌≤◌, ◌<◌, ◌≡◌, List, Option, None, Some, IfSome, Result, Ok, Err, IfOk, is_ok, ◌++◌, length, take, ltb}
 use Rattle.std.proofs.Common.{◌∙◌, ap, arith, append-nil, length-append, sym, subst, true, false, Bool, refl}
 use Rattle.std.proofs.Math.Seq.{take-append_seam, take_all}
 use borrow.Author.Tests.{ltb-false, ltb-true, le-ltb}
 use Rattle.std.specs.Io.KnownBytes.{Consumes, IsAtEnd}
 use Rattle.pdi_spec.specs.RuleList.{plain_rules}
+use Rattle.pdi_spec.specs.Envelope.{envelope_head}
+use Rattle.pdi_spec.specs.Limits.{longest_program_image}
 use Rattle.listing.specs.Printed.{longest_input, longest_printed, printed, print_answer, print_buffer}
 use Rattle.listing.proofs.Laws.Printed.{cut_printed}
 
@@ -15,9 +17,11 @@ unfolding print_answer print_buffer
 counted input out h = rw (le-ltb (length out) longest_printed h) (take-append_seam (printed input) _)
 
 -- what a reader of known bytes gave, up to its end or to a length that is over the longest input's, prints as all of them do
-pub read_prints : (before after : Option (List ℕ)) (buffer : List ℕ) (n : ℕ) (P : List ℕ → Type 0) → longest_input < length buffer
+pub read_prints : (before after : Option (List ℕ)) (buffer : List ℕ) (n : ℕ) (P : List ℕ → Type 0)
+    → envelope_head + longest_program_image < length buffer
     → n ≤ length buffer → Consumes before after (take n buffer) → (n < length buffer → IsAtEnd after) → P (printed (take n buffer))
     → IfSome before (λ input. P (printed input))
+unfolding longest_input
 read_prints None after buffer n P room within given end p = tt
 read_prints (Some input) None buffer n P room within given end p = absurd given
 read_prints (Some input) (Some rest) buffer n P room within given end p = go (ltb n (length buffer)) refl
@@ -40,3 +44,5 @@ read_prints (Some input) (Some rest) buffer n P room within given end p = go (lt
 pub on_success : {T E : Type 0} {P : T → Type 0} (r : Result T E) → true ≡ is_ok r → IfOk r P → (x : T) × P x
 on_success (Ok x) e h = (x, h)
 on_success (Err x) e h = absurd (cc e)
+
+pub ruleset prints = (on_success, read_prints)

@@ -13,7 +13,7 @@ use std::io::{Read, Write};
 const ROOM: usize = envelope::HEAD + envelope::LONGEST + 1;
 
 // Writes what is printed for this input; an error where not all could be.
-#[tactic(auto, using(listing::proofs::Laws::Printed::answer_within))]
+#[tactic(auto, using(listing::proofs::Laws::Printed::answer_within, crate::proofs::Printing::counted))]
 fn answer<W: Write>(input: &[u8], writer: &mut W) -> io::Result<()>
     ensures { IfOk result (λ u. Appends (W.contents writer.old) (W.contents writer.new) (printed input.now)) }
 {
@@ -24,6 +24,7 @@ fn answer<W: Write>(input: &[u8], writer: &mut W) -> io::Result<()>
 
 // The exit status: 0, or 1 where standard input couldn't be read or standard output couldn't be written. At 0, what was written is what is
 // printed for all that was there to be read, also where some of it was left unread.
+#[tactic(auto, using(crate::proofs::Printing::prints), unfolding(pdi_spec::specs::Envelope::envelope_head))]
 pub fn pdi_run<R: Read, W: Write, E: Eprint>(reader: &mut R, writer: &mut W, messages: &E) -> i32
     ensures status { (result ≡ pos 0) ⊎ (result ≡ pos 1) }
     ensures prints { result ≡ pos 0
