@@ -26,4 +26,10 @@ pub read_within : (buffer part : List ℕ) (n more : ℕ) → n ≤ length buffe
     → length part ≡ length (take (length buffer - n) (drop n buffer))
     → n + more ≤ length (put_mid n (length buffer - n) buffer part)
 read_within buffer part n more h k e =
-    omega (arith, same_len_mid n (length buffer - n) buffer part e, e, length-take (length buffer - n) (drop n buffer), length-drop n buffer)
+    omega (
+      arith,
+      same_len_mid n (length buffer - n) buffer part e,
+      e,
+      length-take (length buffer - n) (drop n buffer),
+      length-drop n buffer,
+    )

@@ -31,7 +31,8 @@ module _ {own : List Rule} (s : Supported own) (image : List ℕ) (place : ℕ) 
   taken rows z =
       ap₂ (λ (n : ℕ) (l : List ℕ). take (head_width + row_width * n) l) (count_written s image place rows z)
       (after_accepted _ f rows (read_verdict s image place rows z))
-      ∙ take_at (head_and_rows f) (drop (head_width + row_width * partitions f) rows) (head_width + row_width * partitions f) (written_length f)
+      ∙ take_at (head_and_rows f) (drop (head_width + row_width * partitions f) rows) (head_width + row_width * partitions f)
+      (written_length f)
 
   module _ (bytes : List ℕ) where
     -- a buffer that is too short
@@ -82,7 +83,8 @@ module _ (image : List ℕ) (place : ℕ) (bytes : List ℕ) where
 
     pub plain_stored : read_by plain_rules image place rows ≡ 0
         → sets bytes 0
-        (bytes_of (take (head_width + row_width * get_or (rows_by plain_rules image place rows) 2 0) (rows_by plain_rules image place rows)))
+        (bytes_of
+        (take (head_width + row_width * get_or (rows_by plain_rules image place rows) 2 0) (rows_by plain_rules image place rows)))
         ≡ host_rows_by plain_rules image place bytes
     plain_stored = stored plain image place bytes rows size room
 
