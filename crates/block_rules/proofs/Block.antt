@@ -14,12 +14,14 @@ use Rattle.refusals.specs.declared.Rule.{Rule}
 use Rattle.block_rules.specs.Entries.{FirstEntry, NextEntry, NoEntry, block_answer, block_answer_of}
 use Rattle.block_rules.proofs.Counts.{count_none, count_one, count_two}
 
--- the code's tests before the search
+-- the code's tests of the size and the offset: n entries, of this size
+abbrev pub ill_sized : Block → ℕ → ℕ → Bool
+ill_sized b n size = ((eqb b.size 0 || eqb b.offset 0) || (ltb n 1 || ltb most_entries n)) || not (eqb b.size size)
+
+-- and all of its tests before the search
 abbrev pub ill_placed : List ℕ → Block → Bool
 ill_placed bytes b =
-    let n = entries_in b.size in
-    let ill_sized = ((eqb b.size 0 || eqb b.offset 0) || (ltb n 1 || ltb most_entries n)) || not (eqb b.size (size_of_entries n)) in
-    ill_sized || past (length bytes) (block_range b)
+    let n = entries_in b.size in ill_sized b n (size_of_entries n) || past (length bytes) (block_range b)
 
 -- a block that passes them lies inside the image
 pub inside : (bytes : List ℕ) (size offset : ℕ) → ill_placed bytes (record { size = size; offset = offset }) ≡ false
@@ -29,7 +31,7 @@ inside bytes size offset e = ltb-false (length bytes) _ (or_right _ _ e)
 
 module _ (bytes : List ℕ) (i : ℕ) (b : Block) where
   -- those tests settle rule 17's condition, or leave it to the number of own entries
-  bad_by : {t : Bool} → ill_placed bytes b ≡ t → (t || not (eqb (own_entries bytes b i) 1)) ≡ hash_block_bad bytes i b
+  pub bad_by : {t : Bool} → ill_placed bytes b ≡ t → (t || not (eqb (own_entries bytes b i) 1)) ≡ hash_block_bad bytes i b
   unfolding hash_block_bad not_from
   bad_by e = any_by_last _ (_ ∷ _ ∷ _ ∷ _ ∷ []) _ e
 
@@ -39,7 +41,7 @@ module _ (bytes : List ℕ) (i : ℕ) (b : Block) where
   from_0 : (k : ℕ) {t : Bool} → has_index bytes b i k ≡ t → has_index bytes b i (0 + k) ≡ t
   from_0 k e = ap (has_index bytes b i) {x = 0 + k} {y = k} (omega arith) ∙ e
 
-  none_own : NoEntry bytes b i 0 (entries_in b.size) → not (eqb (own_entries bytes b i) 1) ≡ true
+  pub none_own : NoEntry bytes b i 0 (entries_in b.size) → not (eqb (own_entries bytes b i) 1) ≡ true
   unfolding own_entries entry_numbers
   none_own none = rw (count_none (has_index bytes b i) 0 (entries_in b.size) (λ k l. from_0 k (none k (omega arith) l)))
 
@@ -50,13 +52,13 @@ module _ (bytes : List ℕ) (i : ℕ) (b : Block) where
     own_has : has_index bytes b i (0 + own) ≡ true
     own_has = from_0 own first.has
 
-    own_at : entry_at b own ≡ hash_entry_in bytes b i
+    pub own_at : entry_at b own ≡ hash_entry_in bytes b i
     unfolding hash_entry_in entry_numbers Option-elim
     own_at =
         rw (found (has_index bytes b i) 0 (entries_in b.size) own before first.listed own_has)
         (ap (entry_at b) {x = own} {y = 0 + own} (omega arith))
 
-    two_own : {other : ℕ} → FirstEntry bytes b i (own + 1) other → not (eqb (own_entries bytes b i) 1) ≡ true
+    pub two_own : {other : ℕ} → FirstEntry bytes b i (own + 1) other → not (eqb (own_entries bytes b i) 1) ≡ true
     unfolding own_entries entry_numbers
     two_own {other} next =
         let there = from_0 other next.has in
@@ -64,7 +66,7 @@ module _ (bytes : List ℕ) (i : ℕ) (b : Block) where
         count_two (has_index bytes b i) 0 (entries_in b.size) own other (omega (arith, next.after)) next.listed own_has there in
         rw (ne_eqb (own_entries bytes b i) 1 (λ e. omega (arith, two, e)))
 
-    one_own : NoEntry bytes b i (own + 1) (entries_in b.size) → not (eqb (own_entries bytes b i) 1) ≡ false
+    pub one_own : NoEntry bytes b i (own + 1) (entries_in b.size) → not (eqb (own_entries bytes b i) 1) ≡ false
     unfolding own_entries entry_numbers
     one_own none =
         rw (count_one (has_index bytes b i) 0 (entries_in b.size) own first.listed before own_has
@@ -77,9 +79,14 @@ module _ (bytes : List ℕ) (i : ℕ) (b : Block) where
   absent none = rw (none, no_entry bytes i b none)
 
   module _ (some : no_block b ≡ false) where
-    refused : hash_block_bad bytes i b ≡ true → Err Rule.HashBlockWrong ≡ block_answer bytes i b
+    pub refused : hash_block_bad bytes i b ≡ true → Err Rule.HashBlockWrong ≡ block_answer bytes i b
     unfolding block_answer block_answer_of
     refused bad = rw (some, bad)
+
+    pub checked : hash_block_bad bytes i b ≡ false → {entry : ℕ} → entry ≡ hash_entry_in bytes b i
+        → Ok entry ≡ block_answer bytes i b
+    unfolding block_answer block_answer_of
+    checked good e = rw (some, good, e)
 
     pub misplaced : ill_placed bytes b ≡ true → Err Rule.HashBlockWrong ≡ block_answer bytes i b
     misplaced e = refused (sym (bad_by e))

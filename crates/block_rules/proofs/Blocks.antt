@@ -23,7 +23,7 @@ pub table_block : (bytes : List ℕ) (t : TableHeader) → IsTable bytes t → b
 unfolding hash_block
 table_block bytes t own = ap (λ (h : Table). h.block) own
 
-own_block : (f : File) (i : ℕ) {h : Header} → h ≡ header f (i + 1) → h.block ≡ hash_block f (i + 1)
+pub own_block : (f : File) (i : ℕ) {h : Header} → h ≡ header f (i + 1) → h.block ≡ hash_block f (i + 1)
 unfolding hash_block
 own_block f i e = rw add-one (ap (λ (h : Header). h.block) (rw add-one at e))
 
@@ -38,11 +38,11 @@ good_only true e = absurd (cc)
 good_only false e = (refl, cc)
 
 module _ (f : File) (p : ℕ) {b : Block} (own : b ≡ hash_block f p) where
-  block_refused : {rule : Rule} → block_answer f.bytes p b ≡ Err rule → (hash_block_wrong f p ≡ true) × (rule ≡ Rule.HashBlockWrong)
+  pub block_refused : {rule : Rule} → block_answer f.bytes p b ≡ Err rule → (hash_block_wrong f p ≡ true) × (rule ≡ Rule.HashBlockWrong)
   unfolding block_answer hash_block_wrong
   block_refused e = rw (← own) (bad_only _ _ e)
 
-  block_checked : {entry : ℕ} → block_answer f.bytes p b ≡ Ok entry → (hash_block_wrong f p ≡ false) × (entry ≡ hash_entry f p)
+  pub block_checked : {entry : ℕ} → block_answer f.bytes p b ≡ Ok entry → (hash_block_wrong f p ≡ false) × (entry ≡ hash_entry f p)
   unfolding block_answer hash_block_wrong hash_entry
   block_checked e = rw (← own) (good_only _ e)
 

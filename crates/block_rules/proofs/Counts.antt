@@ -1,5 +1,6 @@
 -- How many of the numbers from a on pass a test: none, exactly one, or two at least. Assumes nothing.
 use Rattle.std.proofs.Common.{ℕ, zero, suc, ◌+◌, ◌≤◌, ◌<◌, arith, Bool, true, false, ◌≡◌, refl, ◌∙◌, ap}
+use native.Mathlib.Decide.{dec_le}
 use Rattle.pdi_spec.specs.Lists.{numbers, count_of}
 use Rattle.pdi_spec.proofs.Laws.Searches.{NoneOf}
 
@@ -47,3 +48,12 @@ module _ (test : ℕ → Bool) where
       rw (head a here) (omega (arith, count_some (suc a) n j (omega arith) (from_next a j there)))
   count_two a (suc n) (suc i) (suc j) l m here there =
       omega (arith, count_two (suc a) n i j (omega arith) (omega arith) (from_next a i here) (from_next a j there))
+
+-- what holds of the numbers from `from` up to k, and of k, holds up to k + 1
+pub skipped_more : (test : ℕ → Bool) (from k : ℕ) → ((j : ℕ) → from ≤ j → j < k → test j ≡ false) → test k ≡ false
+    → (j : ℕ) → from ≤ j → j < k + 1 → test j ≡ false
+skipped_more test from k so e j h l = go (dec_le k j)
+  where
+    go : Dec (k ≤ j) → test j ≡ false
+    go (yes m) = ap test {x = j} {y = k} (omega arith) ∙ e
+    go (no m) = so j h (omega arith)

@@ -21,31 +21,37 @@ unfolding past end_of
 ends_inside limit at e = ltb-false limit (at + header_size) e
 
 -- the code's two tests of the chain's end
-abbrev ends : ℕ → ℕ → ℕ → Bool
+abbrev pub ends : ℕ → ℕ → ℕ → Bool
 ends p n next = (ltb p n && eqb next 0) || (eqb p n && not (eqb next 0))
 
-module _ (bytes : List ℕ) (t : TableHeader) (p : ℕ) {at : ℕ} (place : at ≡ header_at (file_of bytes t) p) where
-  pub outside : past (length bytes) (record { start = at; size = header_size }) ≡ true → None ≡ link_at (file_of bytes t) p
+module _ (f : File) (p : ℕ) {at : ℕ} (place : at ≡ header_at f p) where
+  pub outside : past (length f.bytes) (record { start = at; size = header_size }) ≡ true → None ≡ link_at f p
   unfolding link_at link_of chain_broken any_true header header_from
   outside e = let e' = rw place at e in rw e' refl
 
+  module _ (e : past (length f.bytes) (record { start = at; size = header_size }) ≡ false) where
+    pub inside : {n next : ℕ} → n ≡ partitions f → next ≡ (header f p).next → {b : Bool} → ends p n next ≡ b
+        → link_of b next ≡ link_at f p
+    unfolding link_at chain_broken any_true header header_from
+    inside count is-next x = let e' = rw place at e in rw (← x, count, is-next, e', or-false) refl
+
+-- the header that was read
+module _ (bytes : List ℕ) (t : TableHeader) (p : ℕ) {at : ℕ} (place : at ≡ header_at (file_of bytes t) p) where
   module _ (own : IsTable bytes t) (e : past (length bytes) (record { start = at; size = header_size }) ≡ false) {h : PartitionHeader}
       (read : header_of h ≡ header_from bytes at) where
-    inside : {b : Bool} → ends p t.partitions h.next ≡ b → link_of b h.next ≡ link_at (file_of bytes t) p
-    unfolding link_at chain_broken any_true header header_from partitions
-    inside x =
-        let count = ap (λ (u : Table). u.partitions) own in
-        let next = ap (λ (u : Header). u.next) (read ∙ ap (header_from bytes) place) in
-        let e' = rw place at e in
-        rw (← x, count, next, e', or-false) refl
+    told : {b : Bool} → ends p t.partitions h.next ≡ b → link_of b h.next ≡ link_at (file_of bytes t) p
+    unfolding header partitions
+    told x =
+        inside (file_of bytes t) p place e (ap (λ (u : Table). u.partitions) own)
+        (ap (λ (u : Header). u.next) (read ∙ ap (header_from bytes) place)) x
 
     pub inside_none : ends p t.partitions h.next ≡ true → None ≡ link_at (file_of bytes t) p
     unfolding link_of
-    inside_none x = inside x
+    inside_none x = told x
 
     pub inside_some : ends p t.partitions h.next ≡ false → Some h.next ≡ link_at (file_of bytes t) p
     unfolding link_of
-    inside_some x = inside x
+    inside_some x = told x
 
 -- what the function `link_at` needs
 pub ruleset one_link = (ends_inside, outside, inside_none, inside_some)

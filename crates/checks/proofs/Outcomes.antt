@@ -38,7 +38,7 @@ module _ (bytes : List ℕ) (place : ℕ) (short : Bool) where
     pub too_short : short ≡ true → verdict (core_rules short own) (asked bytes place) ≡ refused 2 0
     too_short e = first_kept ∙ once_broken 2 (λ f. short) (asked bytes place) own e
 
-    passes : short ≡ false → verdict (core_rules short own) (asked bytes place) ≡ verdict own (asked bytes place)
+    pub passes : short ≡ false → verdict (core_rules short own) (asked bytes place) ≡ verdict own (asked bytes place)
     passes e = first_kept ∙ once_kept 2 (λ f. short) (asked bytes place) own e
 
   -- past them, the list is the table's rules and the later ones, whichever these are
@@ -56,7 +56,7 @@ module _ (bytes : List ℕ) (place : ℕ) (short : Bool) where
 -- ---- what a checked table is
 
 module _ (bytes : List ℕ) (place : ℕ) (t : TableHeader) where
-  at_place : table_of t ≡ table (asked bytes place) → t.place ≡ place
+  pub at_place : table_of t ≡ table (asked bytes place) → t.place ≡ place
   unfolding table table_from
   at_place read = ap (λ (u : Table). u.place) read
 

@@ -1,6 +1,7 @@
 -- Rule 19 by its pairs of partitions: where none meet the rule is kept, and the first p that meets an earlier one breaks it; load ranges in
 -- order do not meet. Assumes nothing.
 use Rattle.std.proofs.Common.{◌≡◌, ℕ, ◌+◌, ◌-◌, ◌≤◌, ◌<◌, Bool, true, false, cond, ◌&&◌, [], ◌∷◌, refl, sym, ◌∙◌, ap, arith, add_comm, below_more}
+use borrow.Author.Count.{below_none}
 use Rattle.std.proofs.Math.Decide.{dec_lt}
 use Rattle.std.proofs.Math.Option.{Option-elim}
 use Rattle.pdi_spec.specs.Attributes.{has_load_address}
@@ -41,14 +42,14 @@ module _ (f : File) where
       go true false = apart (load_range_of (header f p)).addresses none (omega arith)
       go false d = apart none (cond d (load_range_of (header f e)).addresses none) (omega arith)
 
-  met : (p k : ℕ) → k + 1 < p → overlap (load p) (load (k + 1)) ≡ true → load_ranges_clash f p ≡ true
+  pub met : (p k : ℕ) → k + 1 < p → overlap (load p) (load (k + 1)) ≡ true → load_ranges_clash f p ≡ true
   unfolding load_ranges_clash
   met p k l e =
       let both = sym (pair p (k + 1)) ∙ e in
       and_both (loads f p) _ (and_left (loads f p) (earlier p (k + 1)) both)
       (any_found (earlier p) 1 (p - 1) k (omega arith) (ap (earlier p) (add_comm 1 k) ∙ and_right (loads f p) (earlier p (k + 1)) both))
 
-  unmet : (p : ℕ) → ((k : ℕ) → k + 1 < p → overlap (load p) (load (k + 1)) ≡ false) → load_ranges_clash f p ≡ false
+  pub unmet : (p : ℕ) → ((k : ℕ) → k + 1 < p → overlap (load p) (load (k + 1)) ≡ false) → load_ranges_clash f p ≡ false
   unfolding load_ranges_clash
   unmet p h = go (loads f p) (λ k l. sym (pair p (k + 1)) ∙ h k l)
     where
@@ -64,11 +65,11 @@ module _ (f : File) where
   pub none_more : (i : ℕ) → NoneMeets i → ((k : ℕ) → k < i → overlap (load (i + 1)) (load (k + 1)) ≡ false) → NoneMeets (i + 1)
   none_more i so clear = below_more _ i so (unmet (i + 1) (λ k l. clear k (omega arith)))
 
-  none_broken : NoneMeets (partitions f) → verdict (rule19 ∷ []) f ≡ accepted
+  pub none_broken : NoneMeets (partitions f) → verdict (rule19 ∷ []) f ≡ accepted
   unfolding verdict each partition_numbers Option-elim
   none_broken so = rw (not_found (load_ranges_clash f) 1 (partitions f) (λ k l. ap (load_ranges_clash f) (add_comm 1 k) ∙ so k l))
 
-  first_broken_lem : (i : ℕ) → i < partitions f → NoneMeets i → load_ranges_clash f (i + 1) ≡ true
+  pub first_broken_lem : (i : ℕ) → i < partitions f → NoneMeets i → load_ranges_clash f (i + 1) ≡ true
       → verdict (rule19 ∷ []) f ≡ refused 19 (i + 1)
   unfolding each partition_numbers
   first_broken_lem i l so e =
@@ -83,6 +84,9 @@ module _ (f : File) where
   pub record Ordered (i : ℕ) (last : Range) : Type 0 where
     pub none_meets : NoneMeets i
     pub ended : (k : ℕ) → k < i → 0 < (load (k + 1)).size → end_of (load (k + 1)) ≤ end_of last
+
+  pub ordered_none : (last : Range) → Ordered 0 last
+  ordered_none last = record { none_meets = below_none _; ended = below_none _ }
 
   -- an empty range more
   pub ordered_empty : (i : ℕ) (last : Range) {r : Range} → Ordered i last → r ≡ load (i + 1) → r.size ≤ 0 → Ordered (i + 1) last

@@ -2,7 +2,7 @@
 use Rattle.std.proofs.Common.{ℕ, [], ◌∷◌, get_or, Option, ◌+◌, ◌-◌, ◌*◌, ◌≤◌, ◌<◌, arith, Bool, true, false, not, ◌||◌, List, ◌≡◌, refl, sym, ◌∙◌, ap, subst, below_more, ltb-false, le-ltb, le-leb, eqb, ltb, None, Some}
 use Rattle.std.proofs.Math.Option.{Option-elim}
 use Rattle.std.proofs.lemmas.Bool.{lt-leb}
-use Rattle.pdi_spec.specs.File.{File, partitions}
+use Rattle.pdi_spec.specs.File.{File, partitions, header_at}
 use Rattle.pdi_spec.specs.Headers.{Table, image_header_size, ImageHeader}
 use Rattle.pdi_spec.specs.Images.{images, image_header_at, image_header, owned_up_to, run_start}
 use Rattle.pdi_spec.specs.ImageRules.{image_checksum_bad, run_misplaced, image_headers_bad, OwnsRun, AllOwnRuns}
@@ -36,40 +36,46 @@ module _ (bytes : List ℕ) {t : TableHeader} (own : IsTable bytes t) where
 -- ---- one image's run
 
 -- the code's tests of an image header, where its run's first header lies at this offset
-abbrev header_tests : List ℕ → ImageHeader → ℕ → Bool
+abbrev pub header_tests : List ℕ → ImageHeader → ℕ → Bool
 header_tests bytes h offset =
     (not (eqb h.checksum (checksum bytes h.at 15)) || ltb h.partitions 1) || not (eqb (4 * h.first_header_offset) offset)
 
-module _ (bytes : List ℕ) (t : TableHeader) (i : ℕ) {offsets : List ℕ} (chain : IsChain bytes t offsets) {owned : ℕ}
-    (before : owned ≡ owned_up_to (file_of bytes t) i) where
-  here : owned_up_to (file_of bytes t) (i + 1 - 1) ≡ owned
-  here = ap (owned_up_to (file_of bytes t)) {x = i + 1 - 1} {y = i} (omega arith) ∙ sym before
+module _ (f : File) (i : ℕ) {n : ℕ} (all : n ≡ partitions f) {owned : ℕ} (before : owned ≡ owned_up_to f i) where
+  here : owned_up_to f (i + 1 - 1) ≡ owned
+  here = ap (owned_up_to f) {x = i + 1 - 1} {y = i} (omega arith) ∙ sym before
 
   -- the images before own all already
-  pub none_left : t.partitions ≤ owned → None ≡ run_at (file_of bytes t) (i + 1)
+  pub none_left : n ≤ owned → None ≡ run_at f (i + 1)
   unfolding run_at run_of run_broken any_true
-  none_left l = rw (here, ← counted chain, le-leb t.partitions owned l) refl
+  none_left l = rw (here, ← all, le-leb n owned l) refl
 
+  pub run_told : owned < n → {h : ImageHeader} → h ≡ image_header f (i + 1) → {offset : ℕ} → offset ≡ header_at f (owned + 1) → {b : Bool}
+      → header_tests f.bytes h offset ≡ b
+      → run_of b (owned + h.partitions) ≡ run_at f (i + 1)
+  unfolding run_at run_broken image_checksum_bad run_misplaced run_start
+  run_told left {h} read {offset} lies x =
+      let count = ap {B = ℕ} (λ (u : ImageHeader). u.partitions) read in
+      let end : owned + h.partitions ≡ owned_up_to f (i + 1) = omega (arith, before, owned_more f i, count) in
+      rw (here, ← all, lt-leb n owned left, ← read, ← lies, ← end, ← x)
+      (ap (λ (b : Bool). run_of b (owned + h.partitions)) (joined_any _ _))
+
+-- the image header that was read, and the offset of its run's first header in the chain
+module _ (bytes : List ℕ) (t : TableHeader) (i : ℕ) {offsets : List ℕ} (chain : IsChain bytes t offsets) {owned : ℕ}
+    (before : owned ≡ owned_up_to (file_of bytes t) i) where
   module _ (left : owned < t.partitions) {h : Declared.ImageHeader}
       (read : image_header_of h ≡ image_header (file_of bytes t) (i + 1)) where
-    run_told : {b : Bool} → header_tests bytes (image_header_of h) (get_or offsets owned 0) ≡ b
+    told : {b : Bool} → header_tests bytes (image_header_of h) (get_or offsets owned 0) ≡ b
         → run_of b (owned + h.partitions) ≡ run_at (file_of bytes t) (i + 1)
-    unfolding run_at run_broken image_checksum_bad run_misplaced run_start
-    run_told x =
-        let count = ap {B = ℕ} (λ (u : ImageHeader). u.partitions) read in
-        let end : owned + h.partitions ≡ owned_up_to (file_of bytes t) (i + 1) =
-        omega (arith, before, owned_more (file_of bytes t) i, count) in
-        rw (here, ← counted chain, lt-leb t.partitions owned left, ← read, ← chain.along owned left, ← end, ← x)
-        (ap (λ (b : Bool). run_of b (owned + h.partitions)) (joined_any _ _))
+    told x = run_told (file_of bytes t) i (counted chain) before left read (chain.along owned left) x
 
     pub run_none : header_tests bytes (image_header_of h) (get_or offsets owned 0) ≡ true → None ≡ run_at (file_of bytes t) (i + 1)
     unfolding run_of
-    run_none x = run_told x
+    run_none x = told x
 
     pub run_some : header_tests bytes (image_header_of h) (get_or offsets owned 0) ≡ false
         → run_at (file_of bytes t) (i + 1) ≡ Some (owned + h.partitions)
     unfolding run_of
-    run_some x = sym (run_told x)
+    run_some x = sym (told x)
 
 -- ---- what a run tells
 
@@ -84,16 +90,16 @@ end_only true e = absurd (cc)
 end_only false e = (refl, cc)
 
 module _ (f : File) (i : ℕ) where
-  run_broken_lem : run_at f i ≡ None → run_broken f i ≡ true
+  pub run_broken_lem : run_at f i ≡ None → run_broken f i ≡ true
   unfolding run_at
   run_broken_lem e = broken_only _ _ e
 
-  run_ends : {end : ℕ} → run_at f i ≡ Some end → (run_broken f i ≡ false) × (end ≡ owned_up_to f i)
+  pub run_ends : {end : ℕ} → run_at f i ≡ Some end → (run_broken f i ≡ false) × (end ≡ owned_up_to f i)
   unfolding run_at
   run_ends e = end_only _ e
 
   -- an unbroken run is one that rule 20 asks for
-  run_owned : run_broken f i ≡ false → OwnsRun f i
+  pub run_owned : run_broken f i ≡ false → OwnsRun f i
   unfolding run_broken image_checksum_bad run_misplaced
   run_owned e =
       record {
@@ -103,7 +109,7 @@ module _ (f : File) (i : ℕ) where
       }
 
   -- and where the images own runs, none is broken
-  own_unbroken : AllOwnRuns f → 1 ≤ i → i ≤ images f → run_broken f i ≡ false
+  pub own_unbroken : AllOwnRuns f → 1 ≤ i → i ≤ images f → run_broken f i ≡ false
   unfolding run_broken image_checksum_bad run_misplaced any_true
   own_unbroken r low high =
       let own = r.each_run i low high in

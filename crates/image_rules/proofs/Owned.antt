@@ -25,13 +25,13 @@ unfolding owned_up_to
 starts f p = record { owned_is = refl; small = omega arith; none = none_yet (reaches f p) 1 }
 
 module _ (f : File) {p owned i : ℕ} (so_far : OwnedSoFar f p owned i) where
-  module _ {h : ImageHeader} (read : image_header_of h ≡ image_header f (i + 1)) where
-    owned_next : owned_up_to f (1 + i) ≡ owned + h.partitions
+  -- what the next image owns
+  module _ {count : ℕ} (count_is : count ≡ (image_header f (i + 1)).partitions) where
+    owned_next : owned_up_to f (1 + i) ≡ owned + count
     owned_next =
-        let count = ap {B = ℕ} (λ (u : spec.ImageHeader). u.partitions) read in
-        ap (owned_up_to f) {x = 1 + i} {y = i + 1} (omega arith) ∙ omega (arith, owned_more f i, so_far.owned_is, count)
+        ap (owned_up_to f) {x = 1 + i} {y = i + 1} (omega arith) ∙ omega (arith, owned_more f i, so_far.owned_is, count_is)
 
-    pub onward : h.partitions < 0x1_0000_0000 → owned + h.partitions < p → OwnedSoFar f p (owned + h.partitions) (i + 1)
+    pub onward : count < 0x1_0000_0000 → owned + count < p → OwnedSoFar f p (owned + count) (i + 1)
     onward few l =
         record {
           owned_is = sym owned_next ∙ ap (owned_up_to f) {x = 1 + i} {y = i + 1} (omega arith);
@@ -39,7 +39,7 @@ module _ (f : File) {p owned i : ℕ} (so_far : OwnedSoFar f p owned i) where
           none = one_more (reaches f p) 1 i so_far.none (lt-leb p (owned_up_to f (1 + i)) (omega (arith, owned_next)));
         }
 
-    pub reached : i < images f → p ≤ owned + h.partitions → owner_image f p ≡ i + 1
+    pub reached : i < images f → p ≤ owned + count → owner_image f p ≡ i + 1
     unfolding owner_image image_numbers Option-elim
     reached l e =
         let first = found (reaches f p) 1 (images f) i so_far.none l (le-leb p (owned_up_to f (1 + i)) (omega (arith, owned_next))) in
@@ -48,3 +48,8 @@ module _ (f : File) {p owned i : ℕ} (so_far : OwnedSoFar f p owned i) where
   pub unreached : i ≡ images f → owner_image f p ≡ 0
   unfolding owner_image image_numbers Option-elim
   unreached e = rw (not_found (reaches f p) 1 (images f) (λ k l. so_far.none k (omega arith))) refl
+
+-- what the image header that was read says of that
+pub count_read : (f : File) (i : ℕ) {h : ImageHeader} → image_header_of h ≡ image_header f (i + 1)
+    → h.partitions ≡ (image_header f (i + 1)).partitions
+count_read f i read = ap {B = ℕ} (λ (u : spec.ImageHeader). u.partitions) read

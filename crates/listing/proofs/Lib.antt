@@ -3,3 +3,4 @@ pub mod Claims
 pub mod Inputs
 pub mod Laws
 pub mod Readings
+pub mod Stores

@@ -61,7 +61,7 @@ nowhere = record { start = 0; size = 0 }
 abbrev pub follows : Bool → Code.Range → Code.Range → Bool
 follows equals a b = ends_before (range_of a) (range_of b) || (equals && same_range (range_of a) (range_of b))
 
-follows_lem : (equals : Bool) (a b : Code.Range) → follows equals a b ≡ true → Follows equals (range_of a) (range_of b)
+pub follows_lem : (equals : Bool) (a b : Code.Range) → follows equals a b ≡ true → Follows equals (range_of a) (range_of b)
 follows_lem equals x y e =
     let a = range_of x in
     let b = range_of y in
@@ -69,13 +69,13 @@ follows_lem equals x y e =
     (λ h. inr (and_left equals (same_range a b) h, same_range_lem a b (and_right equals (same_range a b) h)))
     (or_cases (ends_before a b) (equals && same_range a b) e)
 
-follows_on : (equals : Bool) (a b d : Range) → Follows equals a b → Follows equals b d → Follows equals a d
+pub follows_on : (equals : Bool) (a b d : Range) → Follows equals a b → Follows equals b d → Follows equals a d
 unfolding end_of
 follows_on equals a b d (inr p) q = rw p.1 q
 follows_on equals a b d (inl l) (inr q) = rw (← q.1) (inl l)
 follows_on equals a b d (inl l) (inl k) = inl (omega arith)
 
-follows_apart : (equals : Bool) (a b : Range) → Follows equals a b → clashes equals a b ≡ false
+pub follows_apart : (equals : Bool) (a b : Range) → Follows equals a b → clashes equals a b ≡ false
 unfolding clashes
 follows_apart equals a b (inl l) = rw (apart a b (omega arith))
 follows_apart equals a b (inr p) = rw (p.0, p.1, range_same b) (and-false (overlap b b))
@@ -155,7 +155,7 @@ none_cross blocks ranges e =
 abbrev pub lies_outside : Range → Range → Code.Range → Bool
 lies_outside first last a = ends_before (range_of a) first || ends_before last (range_of a)
 
-lies_outside_lem : (first last : Range) (a : Code.Range) → lies_outside first last a ≡ true
+pub lies_outside_lem : (first last : Range) (a : Code.Range) → lies_outside first last a ≡ true
     → (end_of (range_of a) ≤ first.start) ⊎ (end_of last ≤ a.start)
 lies_outside_lem first last a e =
     ⊎_elim (λ h. inl (ends_before_lem (range_of a) first h)) (λ h. inr (ends_before_lem last (range_of a) h))

@@ -2,6 +2,7 @@
 use Rattle.std.proofs.Common.{◌≡◌, ℕ, ◌+◌, ◌*◌, ◌≤◌, ◌<◌, List, [], ◌∷◌, ◌++◌, length, take, drop, get_or, refl, sym, ◌∙◌, ap, arith, length-take-le}
 use Rattle.std.proofs.lemmas.List.{take_more}
 use Rattle.std.proofs.lemmas.List.Edits.{sets, sets-eq}
+use lib.Seq.{length-sets}
 use mathlib.Core.List.{flat_map}
 use Rattle.pdi_spec.specs.Host.{le_bytes}
 use Rattle.pdi_spec.specs.Limits.{number_bytes}
@@ -16,22 +17,31 @@ unfolding flat_map
 none_stored start = refl
 
 -- a turn of the loop: `rows` has the first i numbers, and `after` the next one as well
-pub turn : (numbers start rows after : List ℕ) (i : ℕ) → i < length numbers
+pub next_stored : (numbers start rows after : List ℕ) (i d : ℕ) → i < length numbers
     → rows ≡ sets start 0 (bytes_of (take i numbers))
-    → after ≡ sets rows (number_bytes * i) (le_bytes number_bytes (get_or numbers i 0))
-    → after ≡ sets start 0 (bytes_of (take (i + 1) numbers))
-turn numbers start rows after i h er ea =
-    let next = le_bytes number_bytes (get_or numbers i 0) in
-    ea
-    ∙ ap (λ (l : List ℕ). sets l (number_bytes * i) next) er
-    ∙ sets_append start (bytes_of (take i numbers)) next 0 (number_bytes * i) (omega (arith, stored))
-    ∙ ap (sets start 0) (sym (flat_map_more (le_bytes number_bytes) (take i numbers) (get_or numbers i 0)) ∙ ap bytes_of one_more)
+    → after ≡ sets rows (number_bytes * i) (le_bytes number_bytes (get_or numbers i d))
+    → (length after ≡ length start) × (after ≡ sets start 0 (bytes_of (take (i + 1) numbers)))
+next_stored numbers start rows after i d h er ea = (ap length more ∙ length-sets start 0 (bytes_of (take (i + 1) numbers)), more)
   where
     stored : length (bytes_of (take i numbers)) ≡ number_bytes * i
     stored = bytes_length (take i numbers) ∙ ap (λ (n : ℕ). number_bytes * n) (length-take-le i numbers (omega arith))
 
-    one_more : take i numbers ++ (get_or numbers i 0 ∷ []) ≡ take (i + 1) numbers
-    one_more = sym (take_more numbers i 0 h)
+    one_more : take i numbers ++ (get_or numbers i d ∷ []) ≡ take (i + 1) numbers
+    one_more = sym (take_more numbers i d h)
+
+    more : after ≡ sets start 0 (bytes_of (take (i + 1) numbers))
+    more =
+        let next = le_bytes number_bytes (get_or numbers i d) in
+        ea
+        ∙ ap (λ (l : List ℕ). sets l (number_bytes * i) next) er
+        ∙ sets_append start (bytes_of (take i numbers)) next 0 (number_bytes * i) (omega (arith, stored))
+        ∙ ap (sets start 0) (sym (flat_map_more (le_bytes number_bytes) (take i numbers) (get_or numbers i d)) ∙ ap bytes_of one_more)
+
+pub turn : (numbers start rows after : List ℕ) (i : ℕ) → i < length numbers
+    → rows ≡ sets start 0 (bytes_of (take i numbers))
+    → after ≡ sets rows (number_bytes * i) (le_bytes number_bytes (get_or numbers i 0))
+    → after ≡ sets start 0 (bytes_of (take (i + 1) numbers))
+turn numbers start rows after i h er ea = (next_stored numbers start rows after i 0 h er ea).1
 
 -- where there is room for all of them, they come first and the rest is as it was
 pub whole : (xs start : List ℕ) → number_bytes * length xs ≤ length start

@@ -15,7 +15,7 @@ module _ {own : List Rule} (s : Supported own) (image : List ℕ) (place : ℕ) 
   count numbers = head_width + row_width * get_or numbers 2 0
 
   -- of a buffer that held 0, no more than it has, of a refusal too, which leaves it as found
-  numbers_few : (rows : List ℕ) → get_or rows 2 0 ≡ 0 → count (rows_by own image place rows) ≤ buffer_numbers
+  pub numbers_few : (rows : List ℕ) → get_or rows 2 0 ≡ 0 → count (rows_by own image place rows) ≤ buffer_numbers
   numbers_few rows blank = go (read_by own image place rows) refl
     where
       go : (r : ℕ) → read_by own image place rows ≡ r → count (rows_by own image place rows) ≤ buffer_numbers
@@ -24,8 +24,15 @@ module _ {own : List Rule} (s : Supported own) (image : List ℕ) (place : ℕ) 
           let as_found = read_refused own image place rows (λ z. absurd (omega (arith, e, z))) in
           omega (arith, ap (λ (l : List ℕ). get_or l 2 0) as_found, blank)
 
+  -- and the buffer is as long as before
+  pub numbers_fit : (rows : List ℕ) → length rows ≡ buffer_numbers → get_or rows 2 0 ≡ 0 → {numbers : List ℕ}
+      → numbers ≡ rows_by own image place rows
+      → (length numbers ≡ buffer_numbers) × (head_width + row_width * get_or numbers 2 0 ≤ buffer_numbers)
+  numbers_fit rows size blank en =
+      (ap length en ∙ read_length s image place rows ∙ size, rw en (numbers_few rows blank))
+
   -- where read accepts, those are the head and the rows
-  taken : (rows : List ℕ) → read_by own image place rows ≡ 0
+  pub taken : (rows : List ℕ) → read_by own image place rows ≡ 0
       → take (count (rows_by own image place rows)) (rows_by own image place rows) ≡ head_and_rows f
   unfolding rows_by
   taken rows z =
@@ -36,19 +43,19 @@ module _ {own : List Rule} (s : Supported own) (image : List ℕ) (place : ℕ) 
 
   module _ (bytes : List ℕ) where
     -- a buffer that is too short
-    short_answer : length bytes < buffer_bytes → read_by own image place (0 ∷ []) ≡ host_read_by own image place bytes
+    pub short_answer : length bytes < buffer_bytes → read_by own image place (0 ∷ []) ≡ host_read_by own image place bytes
     short_answer h =
         sym (host_beside own image place (0 ∷ []) bytes (λ one. absurd (omega (arith, one)), λ two. absurd (omega (arith, two, h))))
 
-    short_kept : length bytes < buffer_bytes → host_rows_by own image place bytes ≡ bytes
+    pub short_kept : length bytes < buffer_bytes → host_rows_by own image place bytes ≡ bytes
     short_kept h = host_refused own image place bytes (λ z. absurd (omega (arith, ((host_accepts s image place bytes).0 z).0)))
 
     -- one that serves, and read's own
     module _ (rows : List ℕ) (size : length rows ≡ buffer_numbers) (room : buffer_bytes ≤ length bytes) where
-      same_answer : read_by own image place rows ≡ host_read_by own image place bytes
+      pub same_answer : read_by own image place rows ≡ host_read_by own image place bytes
       same_answer = sym (host_same own image place rows bytes (omega arith) room)
 
-      stored : read_by own image place rows ≡ 0
+      pub stored : read_by own image place rows ≡ 0
           → sets bytes 0 (bytes_of (take (count (rows_by own image place rows)) (rows_by own image place rows)))
           ≡ host_rows_by own image place bytes
       stored z =
@@ -57,6 +64,29 @@ module _ {own : List Rule} (s : Supported own) (image : List ℕ) (place : ℕ) 
           (omega (arith, written_length f, rows_fit s image place rows z, count_written s image place rows z))
           ∙ ap (λ (n : ℕ). bytes_of (head_and_rows f) ++ drop (number_bytes * n) bytes) (written_length f)
           ∙ sym (host_rows_lem s image place bytes (sym same_answer ∙ z))
+
+    -- both answers at once, of what read answered and left
+    abbrev Answers : ℕ → List ℕ → Type 0
+    Answers r after = (r ≡ host_read_by own image place bytes) × (after ≡ host_rows_by own image place bytes)
+
+    pub short_answers : length bytes < buffer_bytes → {r : ℕ} → r ≡ read_by own image place (0 ∷ []) → Answers r bytes
+    short_answers h e = (e ∙ short_answer h, sym (short_kept h))
+
+    module _ (room : buffer_bytes ≤ length bytes) (rows : List ℕ) (size : length rows ≡ buffer_numbers) {r : ℕ}
+        (er : r ≡ read_by own image place rows) where
+      pub refused_answers : (r ≡ 0 → ⊥) → Answers r bytes
+      refused_answers n =
+          let same = er ∙ same_answer rows size room in
+          (same, sym (host_refused own image place bytes (λ z. n (same ∙ z))))
+
+      pub accepted_answers : (z : r ≡ 0) {numbers : List ℕ} (en : numbers ≡ rows_by own image place rows) {after : List ℕ}
+          → after ≡ sets bytes 0 (bytes_of (take (head_width + row_width * get_or numbers 2 0) numbers)) → Answers r after
+      accepted_answers z en ea = (
+        er ∙ same_answer rows size room,
+        ea
+            ∙ ap (λ (l : List ℕ). sets bytes 0 (bytes_of (take (count l) l))) en
+            ∙ stored rows size room (sym er ∙ z),
+      )
 
 -- ---- of plain reading
 

@@ -2,13 +2,15 @@
 use Rattle.std.proofs.Common.{◌≡◌, ℕ, ◌+◌, true, false, cond, eqb, List, [], ◌∷◌, ◌++◌, map, refl, sym, ◌∙◌, ap, append_assoc, append-nil, add-one, add_comm, zero-add, eq-eqb, ne_eqb}
 use Rattle.std.proofs.lemmas.List.{map-append}
 use mathlib.Core.List.{flat_map}
-use Rattle.pdi_spec.specs.File.{File, is_full, partition_numbers, header, hash_block}
+use Rattle.pdi_spec.specs.File.{File, is_full, partitions, partition_numbers, header, hash_block}
 use Rattle.pdi_spec.specs.HashBlock.{no_block}
 use Rattle.pdi_spec.specs.Headers.{Block, Header, Table}
 use Rattle.pdi_spec.specs.Lists.{numbers}
 use Rattle.pdi_spec.specs.Ranges.{Range, boot_range, table_with_optional, image_headers, header_ranges, block_range, block_ranges, hash_blocks}
 use Rattle.pdi_spec.proofs.Laws.Lists.{flat_map_numbers, numbers_more}
 use Rattle.headers.specs.Headers.{block_of, table_of}
+use Rattle.headers.specs.declared.table.TableHeader.{TableHeader}
+use Rattle.chain_rules.specs.Chain.{IsChain, file_of}
 use Rattle.chain_rules.specs.File.{file_of_chain}
 use Rattle.chain_rules.specs.declared.chain.Chain.{Chain}
 use Rattle.chain_rules.proofs.Counts.{counted}
@@ -26,7 +28,7 @@ on_none : {none : List ranges.Range} {whole more : List Range} → none ≡ [] �
 on_none {none} {whole} {more} empty e = e ∙ ap (λ (l : List ranges.Range). map range_of l ++ more) empty
 
 -- one range more, as pdi_spec has it
-pushed : (xs ys : List ranges.Range) {r : ranges.Range} {a : Range} → range_of r ≡ a → ys ≡ xs ++ (r ∷ [])
+pub pushed : (xs ys : List ranges.Range) {r : ranges.Range} {a : Range} → range_of r ≡ a → ys ≡ xs ++ (r ∷ [])
     → map range_of ys ≡ map range_of xs ++ (a ∷ [])
 pushed xs ys {r} is e = ap (map range_of) e ∙ map-append range_of xs (r ∷ []) ∙ ap (λ (a : Range). map range_of xs ++ (a ∷ [])) is
 
@@ -101,7 +103,7 @@ pub no_block_pushed : (b : Block) (xs : List ranges.Range) → no_block b ≡ tr
 unfolding block_ranges
 no_block_pushed b xs none = rw none (sym (append-nil (map range_of xs)))
 
-own_block : (f : File) (i : ℕ) → (header f (i + 1)).block ≡ hash_block f (0 + (i + 1))
+pub own_block : (f : File) (i : ℕ) → (header f (i + 1)).block ≡ hash_block f (0 + (i + 1))
 unfolding hash_block
 own_block f i = rw (zero-add, add-one) refl
 
@@ -129,3 +131,18 @@ pub blocks_all : (chain : Chain) (i : ℕ) → i ≡ chain.table.partitions
     → first_blocks (file_of_chain chain) i ≡ hash_blocks (file_of_chain chain)
 unfolding first_blocks hash_blocks
 blocks_all chain i all = rw (← counted chain.followed, ← all, add-one) refl
+
+-- the table's block, and then those of the partitions
+pub blocks_joined : {bytes : List ℕ} {t : TableHeader} {offsets : List ℕ} → IsChain bytes t offsets → hash_blocks (file_of bytes t)
+    ≡ block_ranges (block_of t.block) ++ flat_map (λ (p : ℕ). block_ranges (hash_block (file_of bytes t) p)) (numbers 1 t.partitions)
+unfolding hash_blocks flat_map numbers hash_block partitions
+blocks_joined {bytes} {t} chain =
+    let block : ℕ → List Range = λ p. block_ranges (hash_block (file_of bytes t) p) in
+    ap (λ (x : Table). block_ranges x.block ++ flat_map block (numbers 1 x.partitions))
+    (sym chain.own)
+
+-- a list made entry by entry is the lists of one entry, joined
+pub made_joined : {A B : Type 0} (f : A → B) (xs : List A) → map f xs ≡ flat_map (λ (x : A). f x ∷ []) xs
+unfolding flat_map
+made_joined f [] = refl
+made_joined f (x ∷ xs) = ap (λ (l : List _). f x ∷ l) (made_joined f xs)

@@ -21,6 +21,10 @@ part_of Part.Span h = span_of h
 part_of Part.Body h = body_of h
 part_of Part.Load h = load_of h
 
+-- the part that a number means
+unfoldable pub numbered : ℕ → Part
+numbered n = cond (eqb n 0) Part.Header (cond (eqb n 1) Part.Span (cond (eqb n 2) Part.Body Part.Load))
+
 -- that range of each partition
 unfoldable pub parts_of : Part → File → List Range
 parts_of part f = map (λ (p : ℕ). part_of part (header f p)) (partition_numbers f)

@@ -1,6 +1,6 @@
 // One range of a partition.
 ghost use Rattle.std.specs.Prelude.{◌≡◌};
-ghost use Rattle.range_lists.specs.Parts.{load_of, part_of};
+ghost use Rattle.range_lists.specs.Parts.{load_of, numbered, part_of};
 ghost use Rattle.headers.specs.Headers.{header_of};
 ghost use Rattle.ranges.specs.Range.{range_of};
 
@@ -14,6 +14,21 @@ pub enum Part {
     Span,
     Body,
     Load,
+}
+
+// The part that a number means: 0 the header, 1 the span, 2 the body, and every other one the load range.
+impl From<u8> for Part {
+    ghost from_gives = { λ n part. part ≡ numbered n };
+
+    #[tactic(auto, unfolding(crate::specs::Parts::numbered))]
+    fn from(n: u8) -> Part {
+        match n {
+            0 => Part::Header,
+            1 => Part::Span,
+            2 => Part::Body,
+            _ => Part::Load,
+        }
+    }
 }
 
 impl Part {

@@ -1,5 +1,5 @@
 -- From the core's promise to the answers of a question, given by its own rules of the image, `own`. Assumes nothing.
-use Rattle.std.proofs.Common.{◌≡◌, ℕ, ◌+◌, ◌-◌, ◌*◌, ◌<◌, ◌≤◌, false, ltb, List, ◌∷◌, length, take, drop, sym, refl, ap, ◌∙◌, inl, inr, arith}
+use Rattle.std.proofs.Common.{◌≡◌, ℕ, ◌+◌, ◌-◌, ◌*◌, ◌<◌, ◌≤◌, false, ltb, ◌⊎◌, Result, Err, List, ◌∷◌, length, take, drop, sym, refl, ap, ◌∙◌, inl, inr, arith}
 use mathlib.Core.List.{mem-cons_of_mem}
 use Rattle.pdi_spec.specs.Answers.{asked, answer, billed, read_by, rows_by, bill_by, part_by, body_by, owner_by, empty_part, body_under, cut}
 use Rattle.pdi_spec.specs.File.{File, partitions, header}
@@ -16,10 +16,12 @@ use Rattle.pdi_spec.proofs.Laws.Kept.{lengths_stated, span_stated}
 use Rattle.pdi_spec.proofs.Laws.Once.{once_kept}
 use Rattle.pdi_spec.proofs.Laws.Plain.{plain}
 use Rattle.pdi_spec.proofs.Laws.Owners.{owner_refused, owner_none, owner_accepted}
-use Rattle.pdi_spec.proofs.Laws.Refusals.{buffer_accepts}
+use Rattle.pdi_spec.proofs.Laws.Refusals.{buffer_accepts, refusal_below, refusal_p}
 use Rattle.pdi_spec.proofs.Laws.Rows.{after_accepted, after_refused}
 use Rattle.pdi_spec.proofs.Laws.Verdict.{accepted_kept, verdict_after}
 use Rattle.headers.specs.declared.table.TableHeader.{TableHeader}
+use Rattle.refusals.specs.Refusals.{outcome_of}
+use Rattle.refusals.specs.declared.Refusal.{Refusal}
 use Rattle.chain_rules.specs.Chain.{file_of}
 use Rattle.chain_rules.proofs.Counts.{counted}
 use Rattle.checks.specs.Readings.{core_rules, Held}
@@ -97,6 +99,15 @@ module _ {own : List Rule} (s : Supported own) (bytes : List ℕ) (place : ℕ) 
     unfolding owner_by
     over_owner p h = sym (owner_none (without_buffer own) f p (inr (omega (arith, count_is))))
 
+    -- both at once
+    pub no_part : (p : ℕ) → (p < 1) ⊎ (t.partitions < p) → part_by own bytes place p ≡ empty_part
+    no_part p (inl h) = under_part p h
+    no_part p (inr h) = over_part p h
+
+    pub no_owner : (p : ℕ) → (p < 1) ⊎ (t.partitions < p) → 0 ≡ owner_by own bytes place p
+    no_owner p (inl h) = under_owner p h
+    no_owner p (inr h) = over_owner p h
+
     pub owner_told : (p : ℕ) → 1 ≤ p → p ≤ t.partitions → {o : ℕ} → o ≡ owner_image (file_of bytes t) p → o ≡ owner_by own bytes place p
     unfolding owner_by
     owner_told p low high e =
@@ -167,6 +178,22 @@ module _ (own : List Rule) (bytes : List ℕ) (place : ℕ) (rows : List ℕ) wh
     accepted_rows held w =
         w ∙ ap (λ (h : File). overwritten h rows) (same_file bytes place a held)
         ∙ sym (after_accepted (with_rows (length rows) own) g rows read_accepted)
+
+-- what the core answers, either way
+module _ (own : List Rule) (bytes : List ℕ) (place : ℕ) (rows : List ℕ) (r : Result Accepted Refusal)
+    (told : outcome_of r ≡ verdict (core_rules (ltb (length rows) buffer_numbers) own) (asked bytes place)) where
+  pub read_answer_lem : answer (outcome_of r) ≡ read_by own bytes place rows
+  unfolding read_by
+  read_answer_lem = ap answer (told ∙ with_rows_lem own (length rows) (asked bytes place))
+
+  -- number and p of a refusal are small, so that the answer fits
+  pub small : Supported own → {refusal : Refusal} → r ≡ Err refusal → answer (outcome_of r) < 0x1_0000_0000
+  unfolding with_rows answer
+  small s {refusal} e =
+      let refused_is = sym (told ∙ with_rows_lem own (length rows) (asked bytes place)) ∙ ap outcome_of e in
+      let number = refusal_below s buffer_numbers (length rows) (asked bytes place) _ _ refused_is in
+      let partition = refusal_p s buffer_numbers (length rows) (asked bytes place) _ _ refused_is in
+      omega (arith, ap (λ (x : Result Accepted Refusal). answer (outcome_of x)) e, number, partition)
 
 -- what body hands back where its part is b: its bytes, and its place in the image
 pub part_bytes : (own : List Rule) (bytes : List ℕ) (place p : ℕ) (b : Range) → part_by own bytes place p ≡ b

@@ -1,7 +1,7 @@
 -- The sum of the total lengths of a file's first partitions. Assumes nothing.
 use Rattle.std.proofs.Common.{◌≡◌, ℕ, ◌+◌, ◌*◌, map, refl, ◌∙◌, ap, arith}
 use Rattle.pdi_spec.specs.Answers.{billed}
-use Rattle.pdi_spec.specs.File.{File, partition_numbers, header}
+use Rattle.pdi_spec.specs.File.{File, partitions, partition_numbers, header}
 use Rattle.pdi_spec.specs.Lists.{numbers, sum_of}
 use Rattle.pdi_spec.proofs.Laws.Lists.{sum_more}
 use Rattle.chain_rules.specs.File.{file_of_chain}
@@ -22,9 +22,10 @@ totals_more f i =
     ∙ ap (λ (p : ℕ). sum_of (map (λ (q : ℕ). (header f q).total) (numbers 1 i)) + (header f p).total) {x = 1 + i} {y = i + 1} (omega arith)
 
 -- those of all partitions, each of 4 bytes
+pub all_totals : (f : File) {n : ℕ} → n ≡ partitions f → 4 * totals f n ≡ billed f
+unfolding totals billed partition_numbers
+all_totals f e = ap (λ (k : ℕ). 4 * sum_of (map (λ (p : ℕ). (header f p).total) (numbers 1 k))) e
+
 pub totals_all : (chain : Chain) (n words : ℕ) → words ≡ totals (file_of_chain chain) n → n ≡ chain.table.partitions
     → 4 * words ≡ billed (file_of_chain chain)
-unfolding totals billed partition_numbers
-totals_all chain n words e all =
-    ap (λ (k : ℕ). 4 * k) e
-    ∙ ap (λ (k : ℕ). 4 * sum_of (map (λ (p : ℕ). (header (file_of_chain chain) p).total) (numbers 1 k))) (all ∙ counted chain.followed)
+totals_all chain n words e all = ap (λ (k : ℕ). 4 * k) e ∙ all_totals (file_of_chain chain) (all ∙ counted chain.followed)

@@ -1,6 +1,7 @@
 -- What the verdict is, from the lowest broken rule and from the tests' answers; and that a table which rule 3 has passed lies inside.
 -- Assumes nothing.
 use Prim.Native.Nat.{ℕ, ◌+◌, ◌%◌, ◌≤◌}
+use native.Mathlib.Omega.{arith}
 use borrow.Author.Tests.{ltb-false}
 use mathlib.Core.Bool.{Bool, true, false, not, ◌&&◌}
 use mathlib.Core.List.{List}
@@ -47,6 +48,10 @@ module _ (image : List ℕ) (place : ℕ) where
   told_3 e = refused_told _ (rw e refl)
 
   module _ (t : TableHeader) (own : table_of t ≡ table_from image place) (k3 : table_outside (asked image place) ≡ false) where
+    pub read_inside : t.place + header_size ≤ length image
+    unfolding table_from
+    read_inside = omega (arith, ap (λ (t : Table). t.place) own, table_inside _ _ k3)
+
     checksum_is : {b : Bool} → not (eqb t.checksum (checksum image t.place 31)) ≡ b → table_checksum_wrong (asked image place) ≡ b
     unfolding table_checksum_wrong table table_from
     checksum_is told = sym (ap (λ (t : Table). not (eqb t.checksum (checksum image t.place 31))) own) ∙ told

@@ -1,10 +1,17 @@
--- A number stored as eight bytes: to write them over a part stores what the definition stores byte by byte. Assumes nothing.
-use Rattle.std.proofs.Common.{◌≡◌, ℕ, ◌+◌, ◌≤◌, List, length, append_assoc, drop-drop, ◌∙◌}
+-- A number stored byte by byte, one byte and the rest, and as eight bytes: to write them over a part stores what the definition stores byte
+-- by byte. Assumes nothing.
+use Rattle.std.proofs.Common.{◌≡◌, ℕ, zero, suc, ◌+◌, ◌-◌, ◌/◌, ◌%◌, ◌≤◌, ◌<◌, List, length, set, add-one, sub-one, arith, append_assoc, drop-drop, ◌∙◌}
 use Rattle.std.proofs.Math.Nat.{div-div-eq-div-mul}
 use Rattle.std.specs.Int.{w64, to_le_bytes}
 use Rattle.std.proofs.lemmas.List.Edits.{sets, sets-eq}
 use borrow.Rule.Slice.PartMut.{put_mid}
 use Rattle.pdi_spec.specs.Host.{le_bytes}
+
+pub store_byte : (l : List ℕ) (at n v : ℕ) → 0 < n
+    → sets l at (le_bytes n v) ≡ sets (set l at (v % 256)) (at + 1) (le_bytes (n - 1) (v / 256))
+unfolding le_bytes
+store_byte l at zero v h = absurd (omega arith)
+store_byte l at (suc n) v h = simp (add-one, sub-one)
 
 eight_bytes : (v : ℕ) → to_le_bytes w64 v ≡ le_bytes 8 v
 unfolding le_bytes
