@@ -80,16 +80,20 @@ pub parts_all : (part : Part) (chain : Chain) (i : ℕ) → i ≡ chain.table.pa
 unfolding first_parts parts_of partition_numbers
 parts_all part chain i all = rw (← counted chain.followed, ← all) refl
 
--- the ranges before the partitions', in an empty list, and then those of their headers
+-- the ranges before the partitions', and then those of their headers
+pub headers_are : {bytes : List ℕ} {t : TableHeader} {offsets : List ℕ} → IsChain bytes t offsets
+    → header_ranges (file_of bytes t) ≡ first_ranges (table_of t) ++ parts_of Part.Header (file_of bytes t)
+unfolding header_ranges is_full first_ranges parts_of
+headers_are {bytes} {t} chain =
+    ap (λ (x : Table). cond (eqb x.kind 1) (boot_range ∷ []) []
+    ++ (table_with_optional x ∷ image_headers x ∷ parts_of Part.Header (file_of bytes t))) (sym chain.own)
+    ∙ sym (append_assoc (cond (eqb t.kind 1) (boot_range ∷ []) []) (_ ∷ _ ∷ []) _)
+
+-- as the code makes them, in an empty list
 pub headers_joined : (chain : Chain) {none : List ranges.Range} (mid whole : List Range) → none ≡ []
     → mid ≡ map range_of none ++ first_ranges (table_of chain.table)
     → whole ≡ mid ++ parts_of Part.Header (file_of_chain chain) → whole ≡ header_ranges (file_of_chain chain)
-unfolding header_ranges is_full first_ranges parts_of
-headers_joined chain mid whole empty first all =
-    append_on _ all (on_none empty first)
-    ∙ append_assoc (cond (eqb chain.table.kind 1) (boot_range ∷ []) []) (_ ∷ _ ∷ []) _
-    ∙ ap (λ (t : Table). cond (eqb t.kind 1) (boot_range ∷ []) []
-    ++ (table_with_optional t ∷ image_headers t ∷ parts_of Part.Header (file_of_chain chain))) chain.followed.own
+headers_joined chain mid whole empty first all = append_on _ all (on_none empty first) ∙ sym (headers_are chain.followed)
 
 -- ---- hash blocks
 
